@@ -1,0 +1,5 @@
+pub mod Groups
+pub mod Codes
+pub mod Reading
+pub mod Writing
+pub mod Normal

@@ -1,0 +1,95 @@
+-- Laws of lists made by a rule, over any element. Assumes nothing.
+use Prim.Native.Nat.{ℕ, zero, suc, _+_, _-_, _*_, _≤_, _<_}
+use mathlib.Core.Path.{_≡_, refl, ap, ap₂, sym, subst, _∙_}
+use mathlib.Core.List.{List, [], _∷_, _++_, append-assoc, append-nil}
+use native.Mathlib.Nat.{add-zero, zero-add, add-suc, suc-add, not-suc-le-zero, le-of-suc-le-suc, mul-suc}
+use native.Mathlib.Numerals.{add-one}
+use native.Mathlib.Omega.{arith}
+use lib.ListN.{length, getD, take, drop, set}
+use lib.Seq.{drop-cons, drop-drop, drop-length, take-at, drop-at, set-at, append-snoc}
+use Rattle.records.specs.Lists.{each}
+
+module _ {ℓ} {A : Type ℓ} where
+  -- ---- each
+  pub each-length : (f : ℕ → A) (i n : ℕ) → length (each f i n) ≡ n
+  unfolding each
+  each-length f i zero = refl
+  each-length f i (suc n) = ap suc (each-length f (suc i) n)
+
+  pub each-at : (f : ℕ → A) (i n j : ℕ) (d : A) → j < n → getD (each f i n) j d ≡ f (i + j)
+  unfolding each
+  each-at f i zero j d h = absurd (not-suc-le-zero h)
+  each-at f i (suc n) zero d h = ap f (sym (add-zero i))
+  each-at f i (suc n) (suc j) d h = each-at f (suc i) n j d (le-of-suc-le-suc h) ∙ ap f (suc-add i j ∙ sym (add-suc i j))
+
+  pub each-split : (f : ℕ → A) (i m n : ℕ) → each f i (m + n) ≡ each f i m ++ each f (i + m) n
+  unfolding each
+  each-split f i zero n = ap₂ (λ (k c : ℕ). each f k c) (sym (add-zero i)) (zero-add n)
+  each-split f i (suc m) n =
+      ap (each f i) (suc-add m n)
+      ∙ ap (λ (l : List A). f i ∷ l) (each-split f (suc i) m n ∙ ap (λ (k : ℕ). each f (suc i) m ++ each f k n) (suc-add i m ∙ sym (add-suc i m)))
+
+  pub each-ext : (f g : ℕ → A) (i n : ℕ) → ((j : ℕ) → j < n → f (i + j) ≡ g (i + j)) → each f i n ≡ each g i n
+  unfolding each
+  each-ext f g i zero h = refl
+  each-ext f g i (suc n) h =
+      ap₂ _∷_ (subst (λ (k : ℕ). f k ≡ g k) (add-zero i) (h zero (omega arith)))
+      (each-ext f g (suc i) n (λ j p. subst (λ (k : ℕ). f k ≡ g k) (add-suc i j ∙ sym (suc-add i j)) (h (suc j) (omega arith))))
+
+  each-shift : (f : ℕ → A) (i k n : ℕ) → each f (i + k) n ≡ each (λ j. f (i + j)) k n
+  unfolding each
+  each-shift f i k zero = refl
+  each-shift f i k (suc n) =
+      ap (λ (l : List A). f (i + k) ∷ l) (ap (λ (m : ℕ). each f m n) (sym (add-suc i k)) ∙ each-shift f i (suc k) n)
+
+  -- counted from 0 in the place of i
+  pub each-from : (f : ℕ → A) (i n : ℕ) → each f i n ≡ each (λ j. f (i + j)) 0 n
+  each-from f i n = ap (λ (m : ℕ). each f m n) (sym (add-zero i)) ∙ each-shift f i 0 n
+
+  -- one more at the end
+  pub each-more : (f : ℕ → A) (i n : ℕ) → each f i (n + 1) ≡ each f i n ++ (f (i + n) ∷ [])
+  unfolding each
+  each-more f i n = each-split f i n 1
+
+  -- one fewer at the front
+  pub each-next : (f : ℕ → A) (i n : ℕ) → i < n → each f i (n - i) ≡ f i ∷ each f (i + 1) (n - (i + 1))
+  unfolding each
+  each-next f i n h =
+      let left : n - i ≡ suc (n - (i + 1)) = omega arith in
+      ap (each f i) left ∙ ap (λ (m : ℕ). f i ∷ each f m (n - (i + 1))) (sym (add-one i))
+
+  pub each-none : (f : ℕ → A) (i n : ℕ) → n ≤ i → each f i (n - i) ≡ []
+  unfolding each
+  each-none f i n h =
+      let left : n - i ≡ 0 = omega arith in
+      ap (each f i) left
+
+  -- ---- an array that a loop fills from the front
+  pub fill-more : (f : ℕ → A) (l₀ : List A) (k : ℕ) (d : A) → k < length l₀
+      → set (each f 0 k ++ drop k l₀) k (f k) ≡ each f 0 (k + 1) ++ drop (k + 1) l₀
+  fill-more f l₀ k d h =
+      ap (λ (l : List A). set (each f 0 k ++ l) k (f k)) (drop-cons l₀ k d h)
+      ∙ set-at (each f 0 k) (getD l₀ k d) (drop (suc k) l₀) (f k) k (each-length f 0 k)
+      ∙ sym (append-snoc (each f 0 k) (f k) (drop (suc k) l₀))
+      ∙ ap₂ (λ (a b : List A). a ++ b)
+      (ap (λ (m : ℕ). each f 0 k ++ (f m ∷ [])) (sym (zero-add k)) ∙ sym (each-more f 0 k))
+      (ap (λ (m : ℕ). drop m l₀) (sym (add-one k)))
+
+  pub fill-all : (f : ℕ → A) (l₀ : List A) (n : ℕ) → length l₀ ≡ n → each f 0 n ++ drop n l₀ ≡ each f 0 n
+  fill-all f l₀ n h = ap (λ (l : List A). each f 0 n ++ l) (subst (λ (m : ℕ). drop m l₀ ≡ []) h (drop-length l₀)) ∙ append-nil (each f 0 n)
+
+  -- ---- a buffer whose parts of w elements are lent one after the other: the part for record k has come back
+  pub lent-more : (f : ℕ → A) (b₀ : List A) (w k : ℕ)
+      → take (w * k) (each f 0 (w * k) ++ drop (w * k) b₀) ++ (each f (w * k) w ++ drop w (drop (w * k) (each f 0 (w * k) ++ drop (w * k) b₀)))
+      ≡ each f 0 (w * (k + 1)) ++ drop (w * (k + 1)) b₀
+  lent-more f b₀ w k =
+      let done = each f 0 (w * k) in
+      let more : w * (k + 1) ≡ w * k + w = ap (λ (m : ℕ). w * m) (add-one k) ∙ mul-suc w k in
+      ap₂ (λ (a b : List A). a ++ (each f (w * k) w ++ drop w b))
+      (take-at done (drop (w * k) b₀) (w * k) (each-length f 0 (w * k)))
+      (drop-at done (drop (w * k) b₀) (w * k) (each-length f 0 (w * k)))
+      ∙ sym (append-assoc done (each f (w * k) w) (drop w (drop (w * k) b₀)))
+      ∙ ap₂ (λ (a b : List A). a ++ b)
+      (ap (λ (m : ℕ). done ++ each f m w) (sym (zero-add (w * k))) ∙ sym (each-split f 0 (w * k) w))
+      (drop-drop w (w * k) b₀)
+      ∙ ap (λ (m : ℕ). each f 0 m ++ drop m b₀) (sym more)

@@ -1,0 +1,5 @@
+pub mod Numbers
+pub mod Verdicts
+pub mod Bits
+pub mod Words
+pub mod Lists

@@ -1,0 +1,25 @@
+// What every other crate stands on: the paper's numbers, verdicts, bit fields of a byte, and words
+// of two bytes.
+//
+// Every function is total: its definition in specs/ gives a value for every argument of its type.
+mod bits;
+mod verdict;
+mod word;
+
+pub use bits::field;
+pub use bits::join;
+pub use verdict::Verdict;
+pub use verdict::or_else;
+pub use verdict::refuse_unless;
+pub use word::word_at;
+
+// "Numbers given back", as specs/Numbers.antt names them.
+pub const ACCEPTED: u8 = 0;
+
+pub const WRONG_LENGTH: u8 = 1;
+
+pub const RESERVED: u8 = 2;
+
+pub const UNPRINTED: u8 = 3;
+
+pub const OUT_OF_RANGE: u8 = 4;
