@@ -124,6 +124,10 @@ zeroGroup k = zeroGroupOf (inputOf k 0)
 unfoldable pub zeroSettings : Settings
 zeroSettings = record { groups = each zeroGroup 0 10 }
 
+-- group k of the settings; past the tenth, the zero group
+abbrev pub groupAt : Settings → ℕ → Group
+groupAt settings k = getD (settings .groups) k (zeroGroup k)
+
 -- the settings where the image is accepted; a refusal has the zero settings
 unfoldable pub reading : List ℕ → Reading
 reading image =

@@ -10,7 +10,7 @@ use Rattle.records.specs.Verdicts.{refusedUnless, firstRefusal}
 use Rattle.records.specs.declared.verdict.Verdict.{Verdict}
 use Rattle.image.specs.Groups.{isVX}
 use Rattle.image.specs.Codes.{codeNumber, codeValue, lookup, times, pulses, faultCode, inputCode, sourceCode, pullCode}
-use Rattle.image.specs.Reading.{zeroGroup}
+use Rattle.image.specs.Reading.{groupAt}
 use Rattle.image.specs.declared.codes.Code.{Code}
 use Rattle.image.specs.declared.codes.Code.the-variants.{Is, Lacking}
 use Rattle.image.specs.declared.settings.Logic.{Logic}
@@ -73,8 +73,7 @@ groupBytes k group =
 
 -- the byte at an address
 unfoldable pub settingByte : Settings → ℕ → Code
-settingByte settings address =
-    getD (groupBytes (address / 8) (getD (settings .groups) (address / 8) (zeroGroup (address / 8)))) (address % 8) Lacking
+settingByte settings address = getD (groupBytes (address / 8) (groupAt settings (address / 8))) (address % 8) Lacking
 
 -- ---- acceptance
 

@@ -45,18 +45,18 @@ joined-masked value low rest below =
     ∙ or-shifted (value % 2 ^ (8 - low)) low (rest % 2 ^ low) (mod-lt rest (pow-pos low))
     ∙ ap (λ (n : ℕ). n + rest % 2 ^ low) (sym (shifted-in value low below))
 
--- a shift by eight or more leaves nothing of a byte
-shifted-out : (value low : ℕ) → 8 ≤ low → value * 2 ^ low % 2 ^ 8 ≡ 0
-shifted-out value low past =
-    ap (λ (n : ℕ). value * 2 ^ n % 2 ^ 8) (sym (sub-add-cancel past))
-    ∙ ap (λ (n : ℕ). value * n % 2 ^ 8) (pow-add 2 (low - 8) 8)
-    ∙ ap (λ (n : ℕ). n % 2 ^ 8) (sym (mul-assoc value (2 ^ (low - 8)) (2 ^ 8)))
-    ∙ mul-mod-left (value * 2 ^ (low - 8)) (2 ^ 8)
+-- a shift by the width or more leaves nothing
+pub shifted-past : (value low width : ℕ) → width ≤ low → value * 2 ^ low % 2 ^ width ≡ 0
+shifted-past value low width past =
+    ap (λ (n : ℕ). value * 2 ^ n % 2 ^ width) (sym (sub-add-cancel past))
+    ∙ ap (λ (n : ℕ). value * n % 2 ^ width) (pow-add 2 (low - width) width)
+    ∙ ap (λ (n : ℕ). n % 2 ^ width) (sym (mul-assoc value (2 ^ (low - width)) (2 ^ width)))
+    ∙ mul-mod-left (value * 2 ^ (low - width)) (2 ^ width)
 
 pub joined-past : (value low rest : ℕ) → rest < 2 ^ 8 → 8 ≤ low → rest ≡ joined value low rest
 unfolding joined
 joined-past value low rest byte past =
-    sym (ap₂ _+_ (shifted-out value low past) (mod-eq-of-lt (lt-of-lt-of-le byte (pow-mono past))) ∙ zero-add rest)
+    sym (ap₂ _+_ (shifted-past value low 8 past) (mod-eq-of-lt (lt-of-lt-of-le byte (pow-mono past))) ∙ zero-add rest)
 
 -- where the value and the rest have room, a join is a sum
 pub joined-sum : (value low rest : ℕ) → value * 2 ^ low < 2 ^ 8 → rest < 2 ^ low → joined value low rest ≡ value * 2 ^ low + rest

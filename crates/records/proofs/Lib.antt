@@ -1,3 +1,4 @@
 pub mod BitLaws
 pub mod VerdictLaws
 pub mod ListLaws
+pub mod WordLaws

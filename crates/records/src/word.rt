@@ -1,6 +1,6 @@
 // "Numbers of several bytes have the low byte first."
 ghost use mathlib.Core.Path.{_≡_};
-ghost use Rattle.records.specs.Words.{wordAt};
+ghost use Rattle.records.specs.Words.{wordAt, bitWord};
 
 // The word of two bytes at a place; a byte past the end counts as 0.
 pub fn word_at(bytes: &[u8], at: usize) -> u16
@@ -15,4 +15,17 @@ pub fn word_at(bytes: &[u8], at: usize) -> u16
         return low;
     }
     low + 256 * bytes[next] as u16
+}
+
+// The word with bit k alone where it is on; with no bit where it is off, or past bit 15.
+pub fn bit(on: bool, k: usize) -> u16
+    ensures { λ r. ⌜ r ≡ bitWord on k ⌝ }
+{
+    if !on {
+        return 0;
+    }
+    if k >= 16 {
+        return 0;
+    }
+    1 << k
 }
