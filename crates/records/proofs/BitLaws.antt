@@ -17,10 +17,11 @@ pub bits-lt : (b low width : ℕ) → bits b low width < 2 ^ width
 unfolding bits
 bits-lt b low width = mod-lt (b / 2 ^ low) (pow-pos width)
 
-pub bits-past : (b low width : ℕ) → b < 2 ^ 8 → 8 ≤ low → 0 ≡ bits b low width
+-- a number of so many bits has none past them
+pub bits-past : (size b low width : ℕ) → b < 2 ^ size → size ≤ low → 0 ≡ bits b low width
 unfolding bits
-bits-past b low width byte past =
-    sym (ap (λ (n : ℕ). n % 2 ^ width) (div-eq-of-lt (lt-of-lt-of-le byte (pow-mono past))) ∙ zero-mod (2 ^ width))
+bits-past size b low width fits past =
+    sym (ap (λ (n : ℕ). n % 2 ^ width) (div-eq-of-lt (lt-of-lt-of-le fits (pow-mono past))) ∙ zero-mod (2 ^ width))
 
 pub bits-wide : (b low width : ℕ) → b < 2 ^ 8 → 8 ≤ width → b / 2 ^ low ≡ bits b low width
 unfolding bits

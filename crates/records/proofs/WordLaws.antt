@@ -60,7 +60,7 @@ pub wordOf-bit : (f : ℕ → Bool) (n k : ℕ) → k < n → bits (wordOf f n) 
 unfolding wordOf
 wordOf-bit f zero k h = absurd (not-suc-le-zero h)
 wordOf-bit f (suc n) k h =
-    elim (ℕ-discrete k n)
-    [ yes e ↦ subst (λ (m : ℕ). bits (wordOf f n + cond (f n) (2 ^ n) 0) m 1 ≡ cond (f m) 1 0) (sym e) (top (wordOf f n) n (f n) (wordOf-lt f n))
-    | no e ↦ (let lower : k < n = omega arith in below (wordOf f n) n k (f n) lower ∙ wordOf-bit f n k lower)
+    elim (ℕ-discrete k n) [
+      | yes e ↦ subst (λ (m : ℕ). bits (wordOf f n + cond (f n) (2 ^ n) 0) m 1 ≡ cond (f m) 1 0) (sym e) (top (wordOf f n) n (f n) (wordOf-lt f n))
+      | no e ↦ (let lower : k < n = omega arith in below (wordOf f n) n k (f n) lower ∙ wordOf-bit f n k lower)
     ]

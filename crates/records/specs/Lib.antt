@@ -3,3 +3,4 @@ pub mod Verdicts
 pub mod Bits
 pub mod Words
 pub mod Lists
+pub mod Tags

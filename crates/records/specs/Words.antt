@@ -1,5 +1,5 @@
 -- "Numbers of several bytes have the low byte first." Assumes nothing.
-use Prim.Native.Nat.{ℕ, zero, suc, _+_, _*_, _%_, _^_}
+use Prim.Native.Nat.{ℕ, zero, suc, _+_, _*_, _/_, _%_, _^_}
 use mathlib.Core.Bool.{Bool, cond}
 use mathlib.Core.List.{List}
 use lib.ListN.{getD}
@@ -7,6 +7,13 @@ use lib.ListN.{getD}
 -- the word of two bytes at a place
 unfoldable pub wordAt : List ℕ → ℕ → ℕ
 wordAt bytes at = getD bytes at 0 + 256 * getD bytes (at + 1) 0
+
+-- the two bytes of a word
+unfoldable pub lowByte : ℕ → ℕ
+lowByte word = word % 256
+
+unfoldable pub highByte : ℕ → ℕ
+highByte word = word / 256
 
 -- the word of sixteen bits with bit k alone, or with none
 unfoldable pub bitWord : Bool → ℕ → ℕ

@@ -16,6 +16,16 @@ pub fn field(byte: u8, low: u8, width: u8) -> u8
     (byte >> low) & mask(width)
 }
 
+// Bit k of a word, 0 past its last.
+pub fn word_bit(word: u16, k: u8) -> u8
+    ensures { λ r. ⌜ r ≡ bits word k 1 ⌝ }
+{
+    if k >= 16 {
+        return 0;
+    }
+    ((word >> k) % 2) as u8
+}
+
 // The byte whose lowest `low` bits are those of `rest`, and whose bits above are `value`.
 pub fn join(value: u8, low: u8, rest: u8) -> u8
     ensures { λ r. ⌜ r ≡ joined value low rest ⌝ }

@@ -8,10 +8,13 @@ mod word;
 
 pub use bits::field;
 pub use bits::join;
+pub use bits::word_bit;
 pub use verdict::Verdict;
 pub use verdict::or_else;
 pub use verdict::refuse_unless;
-pub use word::{bit, word_at};
+pub use word::bit;
+pub use word::byte_at;
+pub use word::word_at;
 
 // "Numbers given back", as specs/Numbers.antt names them.
 pub const ACCEPTED: u8 = 0;
@@ -23,9 +26,15 @@ pub const RESERVED: u8 = 2;
 pub const UNPRINTED: u8 = 3;
 
 pub const OUT_OF_RANGE: u8 = 4;
+
 pub const REPEATED_TAG: u8 = 5;
+
 pub const UNKNOWN_TAG: u8 = 6;
+
 pub const TOO_MANY_CELLS: u8 = 7;
+
 pub const UNREACHABLE: u8 = 8;
+
 pub const BAD_WORD: u8 = 9;
+
 pub const NO_ROOM: u8 = 10;

@@ -1,5 +1,6 @@
 // "Numbers of several bytes have the low byte first."
 ghost use mathlib.Core.Path.{_≡_};
+ghost use lib.ListN.{getD};
 ghost use Rattle.records.specs.Words.{wordAt, bitWord};
 
 // The word of two bytes at a place; a byte past the end counts as 0.
@@ -15,6 +16,13 @@ pub fn word_at(bytes: &[u8], at: usize) -> u16
         return low;
     }
     low + 256 * bytes[next] as u16
+}
+
+// The byte at a place, 0 past the end.
+pub fn byte_at(bytes: &[u8], at: usize) -> u8
+    ensures { λ r. ⌜ r ≡ getD (now (bytes .entry)) at 0 ⌝ }
+{
+    if at < bytes.len() { bytes[at] } else { 0 }
 }
 
 // The word with bit k alone where it is on; with no bit where it is off, or past bit 15.

@@ -8,7 +8,7 @@ use Rattle.records.proofs.bits.field.Statement.{statement}
 use Rattle.records.proofs.bits.field.Tie as tie
 
 returns : tie.Need-returns
-returns c = bits-past _ _ _ (c .before .fits .byte .fits) (c .if1 .taken)
+returns c = bits-past 8 _ _ _ (c .before .fits .byte .fits) (c .if1 .taken)
 
 shr-result : tie.Need-shr-result
 shr-result c = search needs
