@@ -15,7 +15,7 @@ ghost use Rattle.image.specs.declared.settings.Source.the-variants.{Disa
 ghost use Rattle.image.specs.declared.settings.Pull.the-variants.{Unpulled};
 
 // What a look-up answers: the lowest code, or that no code has the meaning.
-pub(crate) enum Code {
+pub enum Code {
     Is(u8),
     Lacking,
 }

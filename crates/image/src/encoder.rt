@@ -3,12 +3,12 @@ use crate::codes;
 use crate::codes::Code;
 use crate::settings::Group;
 use crate::settings::Logic;
+use crate::settings::Output;
 use records::OUT_OF_RANGE;
 use records::join;
-ghost use Prim.Native.Nat.{_<_, _≤_, _+_, _*_};
+ghost use Prim.Native.Nat.{_<_};
 ghost use mathlib.Core.Path.{_≡_};
-ghost use mathlib.Core.Bool.{Bool};
-ghost use Rattle.image.specs.Writing.{encoded, refusedAt, flag, hasLogic, logicByte, pinLogicByte};
+ghost use Rattle.image.specs.Writing.{encoded, refusedAt, flag, logicByte, pinLogicByte, outputByte};
 
 // The eight bytes, with number 0; or the refusal, with eight zeros.
 pub(crate) struct Encoded {
@@ -27,8 +27,6 @@ pub(crate) fn encode(k: usize, group: Group) -> Encoded
     let input = group.input;
     let faults = group.faults;
     let logic = group.logic;
-    let source = output.source;
-    let pull = output.pull;
     if over.hysteresis > 31 {
         return refused(8 * k + 1);
     }
@@ -45,7 +43,6 @@ pub(crate) fn encode(k: usize, group: Group) -> Encoded
         return refused(8 * k + 6);
     };
     let four = join(delay, 2, codes::fault_code(faults));
-    let seven = join(codes::source_code(source), 4, codes::pull_code(pull));
     let bytes = [
         over.level,
         over.hysteresis,
@@ -54,8 +51,14 @@ pub(crate) fn encode(k: usize, group: Group) -> Encoded
         four,
         five,
         six,
-        seven,
+        output_byte(output),
     ];
+    accepted(bytes)
+}
+
+fn accepted(bytes: [u8; 8]) -> Encoded
+    ensures { λ r. ⌜ r ≡ record { number = 0; place = 0; bytes = bytes } ⌝ }
+{
     Encoded {
         number: 0,
         place: 0,
@@ -81,7 +84,7 @@ fn logic_byte(k: usize, logic: Logic) -> Code
     if k >= 5 {
         return pin_logic_byte(logic);
     }
-    if logic.invert || logic.edge || logic.pulse != 0 || logic.delay != 0 {
+    if logic.invert | logic.edge | (logic.pulse != 0) | (logic.delay != 0) {
         return Code::Lacking;
     }
     Code::Is(0)
@@ -98,6 +101,15 @@ fn pin_logic_byte(logic: Logic) -> Code
     };
     let times = join(pulse, 3, delay);
     Code::Is(join(bit(logic.invert), 6, join(bit(logic.edge), 5, times)))
+}
+
+// Byte 7: every output has its byte.
+fn output_byte(output: Output) -> u8
+    ensures { λ r. ⌜ Code.Is r ≡ outputByte output ⌝ }
+{
+    let source = output.source;
+    let pull = output.pull;
+    join(codes::source_code(source), 4, codes::pull_code(pull))
 }
 
 fn bit(on: bool) -> u8

@@ -9,6 +9,7 @@ mod reader;
 mod settings;
 mod writer;
 
+pub use codes::Code;
 pub use reader::Reading;
 pub use reader::read;
 pub use settings::FaultType;

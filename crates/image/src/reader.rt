@@ -13,11 +13,9 @@ use records::WRONG_LENGTH;
 use records::field;
 use records::or_else;
 use records::refuse_unless;
-ghost use Prim.Native.Nat.{_<_, _+_, _*_};
+ghost use Prim.Native.Nat.{_<_};
 ghost use mathlib.Core.Path.{_≡_};
-ghost use lib.ListN.{length, getD};
-ghost use Rattle.records.specs.Lists.{each};
-ghost use Rattle.records.specs.Verdicts.{firstRefusal};
+ghost use lib.ListN.{length};
 ghost use Rattle.image.specs.Reading.{reservedFrom, printed, byteVerdict, partVerdict, imageVerdict, thresholdOf, logicOf, outputOf, groupOf, settingsOf, reading};
 
 // What the reader answers: the settings, with number 0; or the refusal, with the zero settings.
@@ -117,7 +115,8 @@ fn is_printed(j: usize, byte: u8) -> bool
         return true;
     }
     let pull = field(byte, 0, 4);
-    field(byte, 4, 3) < 4 && pull != 12 && pull != 13
+    let source = field(byte, 4, 3);
+    (source < 4) & !((pull == 12) | (pull == 13))
 }
 
 fn read_groups(image: &[u8]) -> Settings

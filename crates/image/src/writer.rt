@@ -5,7 +5,6 @@ use crate::settings::Settings;
 use records::Verdict;
 use records::WRONG_LENGTH;
 use records::refuse_unless;
-ghost use Prim.Native.Nat.{_<_, _+_, _*_};
 ghost use mathlib.Core.Path.{_≡_};
 ghost use lib.ListN.{length};
 ghost use Rattle.image.specs.Writing.{settingsVerdict, writeVerdict, imageOf, written, blankImage};

@@ -1,15 +1,23 @@
 -- Laws of lists made by a rule, over any element. Assumes nothing.
-use Prim.Native.Nat.{ℕ, zero, suc, _+_, _-_, _*_, _≤_, _<_}
+use Prim.Native.Nat.{ℕ, zero, suc, _+_, _-_, _*_, _/_, _%_, _≤_, _<_}
 use mathlib.Core.Path.{_≡_, refl, ap, ap₂, sym, subst, _∙_}
 use mathlib.Core.List.{List, [], _∷_, _++_, append-assoc, append-nil}
-use native.Mathlib.Nat.{add-zero, zero-add, add-suc, suc-add, not-suc-le-zero, le-of-suc-le-suc, mul-suc}
+use native.Mathlib.Nat.{add-zero, zero-add, add-suc, suc-add, not-suc-le-zero, le-of-suc-le-suc, mul-suc, mul-comm}
 use native.Mathlib.Numerals.{add-one}
 use native.Mathlib.Omega.{arith}
-use lib.ListN.{length, getD, take, drop, set}
-use lib.Seq.{drop-cons, drop-drop, drop-length, take-at, drop-at, set-at, append-snoc}
+use lib.Arith.{digits-div, digits-mod}
+use lib.ListN.{length, getD, take, drop, set, length-append, length-drop}
+use lib.Seq.{drop-cons, drop-drop, drop-length, take-at, drop-at, set-at, append-snoc, ext-getD}
 use Rattle.records.specs.Lists.{each}
 
 module _ {ℓ} {A : Type ℓ} where
+  -- ---- an element
+  -- below the length the default does not matter
+  pub getD-default : (l : List A) (i : ℕ) (d e : A) → i < length l → getD l i d ≡ getD l i e
+  getD-default [] i d e h = absurd (not-suc-le-zero h)
+  getD-default (x ∷ l) zero d e h = refl
+  getD-default (x ∷ l) (suc i) d e h = getD-default l i d e (le-of-suc-le-suc h)
+
   -- ---- each
   pub each-length : (f : ℕ → A) (i n : ℕ) → length (each f i n) ≡ n
   unfolding each
@@ -64,6 +72,23 @@ module _ {ℓ} {A : Type ℓ} where
       let left : n - i ≡ 0 = omega arith in
       ap (each f i) left
 
+  -- a list is what its elements make
+  pub each-elements : (l : List A) (d : A) → each (λ i. getD l i d) 0 (length l) ≡ l
+  each-elements l d =
+      let all = each-length (λ i. getD l i d) 0 (length l) in
+      ext-getD d (each (λ i. getD l i d) 0 (length l)) l all
+      (λ i h. each-at (λ i. getD l i d) 0 (length l) i d (subst (λ (n : ℕ). i < n) all h) ∙ ap (λ (m : ℕ). getD l m d) (zero-add i))
+
+  -- ---- records of w elements: place a is the place a % w of record a / w
+  pub each-record : (f : ℕ → ℕ → ℕ → A) (w k : ℕ) → each (λ a. f (a / w) (a % w) a) (w * k) w ≡ each (λ j. f k j (w * k + j)) 0 w
+  each-record f w k = each-from (λ a. f (a / w) (a % w) a) (w * k) w ∙ each-ext _ (λ j. f k j (w * k + j)) 0 w (λ j h. inside (0 + j) (omega arith))
+    where
+      inside : (r : ℕ) → r < w → f ((w * k + r) / w) ((w * k + r) % w) (w * k + r) ≡ f k r (w * k + r)
+      inside r h =
+          ap₂ (λ (q m : ℕ). f q m (w * k + r))
+          (ap (λ (n : ℕ). (n + r) / w) (mul-comm w k) ∙ digits-div k h)
+          (ap (λ (n : ℕ). (n + r) % w) (mul-comm w k) ∙ digits-mod k h)
+
   -- ---- an array that a loop fills from the front
   pub fill-more : (f : ℕ → A) (l₀ : List A) (k : ℕ) (d : A) → k < length l₀
       → set (each f 0 k ++ drop k l₀) k (f k) ≡ each f 0 (k + 1) ++ drop (k + 1) l₀
@@ -77,6 +102,14 @@ module _ {ℓ} {A : Type ℓ} where
 
   pub fill-all : (f : ℕ → A) (l₀ : List A) (n : ℕ) → length l₀ ≡ n → each f 0 n ++ drop n l₀ ≡ each f 0 n
   fill-all f l₀ n h = ap (λ (l : List A). each f 0 n ++ l) (subst (λ (m : ℕ). drop m l₀ ≡ []) h (drop-length l₀)) ∙ append-nil (each f 0 n)
+
+  -- the same for the list and the element that the code holds
+  pub filled-more : (f : ℕ → A) (l₀ l : List A) (k : ℕ) (x : A) → l ≡ each f 0 k ++ drop k l₀ → x ≡ f k → k < length l₀
+      → set l k x ≡ each f 0 (k + 1) ++ drop (k + 1) l₀
+  filled-more f l₀ l k x is here h = ap₂ (λ (m : List A) (y : A). set m k y) is here ∙ fill-more f l₀ k x h
+
+  pub filled-all : (f : ℕ → A) (l₀ l : List A) (k n : ℕ) → l ≡ each f 0 k ++ drop k l₀ → k ≡ n → length l₀ ≡ n → l ≡ each f 0 n
+  filled-all f l₀ l k n is end whole = is ∙ ap (λ (m : ℕ). each f 0 m ++ drop m l₀) end ∙ fill-all f l₀ n whole
 
   -- ---- a buffer whose parts of w elements are lent one after the other: the part for record k has come back
   pub lent-more : (f : ℕ → A) (b₀ : List A) (w k : ℕ)
@@ -93,3 +126,14 @@ module _ {ℓ} {A : Type ℓ} where
       (ap (λ (m : ℕ). done ++ each f m w) (sym (zero-add (w * k))) ∙ sym (each-split f 0 (w * k) w))
       (drop-drop w (w * k) b₀)
       ∙ ap (λ (m : ℕ). each f 0 m ++ drop m b₀) (sym more)
+
+  -- the same for the buffer and the part that the code holds
+  pub lent-back : (f : ℕ → A) (b₀ b part : List A) (w k n : ℕ) → b ≡ each f 0 (w * k) ++ drop (w * k) b₀ → part ≡ each f (w * k) w → n ≡ w
+      → take (w * k) b ++ (part ++ drop n (drop (w * k) b)) ≡ each f 0 (w * (k + 1)) ++ drop (w * (k + 1)) b₀
+  lent-back f b₀ b part w k n is here whole =
+      ap₂ (λ (l m : List A). take (w * k) l ++ (m ++ drop n (drop (w * k) l))) is here
+      ∙ ap (λ (m : ℕ). take (w * k) (each f 0 (w * k) ++ drop (w * k) b₀) ++ (each f (w * k) w ++ drop m (drop (w * k) (each f 0 (w * k) ++ drop (w * k) b₀)))) whole
+      ∙ lent-more f b₀ w k
+
+  pub lent-length : (f : ℕ → A) (b₀ : List A) (n : ℕ) → n ≤ length b₀ → length (each f 0 n ++ drop n b₀) ≡ length b₀
+  lent-length f b₀ n h = simp (length-append, each-length, length-drop) (omega arith)

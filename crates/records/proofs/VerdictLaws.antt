@@ -1,18 +1,27 @@
 -- Laws of verdicts: a test's refusal shows exactly when all before it pass. Assumes nothing.
-use Prim.Native.Nat.{ℕ, zero, suc, _+_, _-_, _≤_, _<_}
-use mathlib.Core.Path.{_≡_, refl, ap, sym, subst, _∙_}
-use mathlib.Core.Bool.{Bool, true, false, cond}
+use Prim.Native.Nat.{ℕ, zero, suc, _+_, _-_, _*_, _≤_, _<_}
+use mathlib.Core.Path.{_≡_, refl, ap, sym, _∙_}
+use mathlib.Core.Bool.{Bool, true, false}
 use mathlib.Core.List.{List, [], _∷_, _++_}
-use native.Mathlib.Nat.{not-suc-le-zero, le-of-suc-le-suc}
+use native.Mathlib.Nat.{not-suc-le-zero, le-of-suc-le-suc, mul-zero, mul-suc, add-comm, zero-add}
 use native.Mathlib.Omega.{arith}
 use native.Mathlib.Decide.{ℕ-discrete}
 use borrow.Author.Tests.{eq-eqb, ne-eqb}
-use lib.Dec.{eqb}
-use lib.ListN.{length, getD}
+use lib.ListN.{getD}
 use Rattle.records.specs.Verdicts.{accepted, refusedUnless, orElse, firstRefusal}
 use Rattle.records.specs.Lists.{each}
 use Rattle.records.specs.declared.verdict.Verdict.{Verdict}
-use Rattle.records.proofs.ListLaws.{each-next, each-none, each-split, each-at, each-length}
+use Rattle.records.proofs.ListLaws.{each-next, each-none, each-split, each-at}
+
+-- ---- one test
+-- a test that refuses with a number passes only where it holds
+pub unless-zero : (holds : Bool) (number place : ℕ) → (number ≡ 0 → ⊥) → refusedUnless holds number place .number ≡ 0 → holds ≡ true
+unless-zero true number place h e = refl
+unless-zero false number place h e = absurd (h e)
+
+pub unless-accepted : (holds : Bool) (number place : ℕ) → (number ≡ 0 → ⊥) → refusedUnless holds number place .number ≡ 0 → refusedUnless holds number place ≡ accepted
+unless-accepted true number place h e = refl
+unless-accepted false number place h e = absurd (h e)
 
 -- ---- two tests
 pub orElse-pass : (v w : Verdict) → v .number ≡ 0 → orElse v w ≡ w
@@ -53,6 +62,11 @@ first-accepted (v ∷ vs) h =
 pub first-cons : (v : Verdict) (vs : List Verdict) → firstRefusal (v ∷ vs) ≡ orElse v (firstRefusal vs)
 unfolding firstRefusal
 first-cons v vs = refl
+
+-- a list of one test
+pub first-one : (v : Verdict) → (v .number ≡ 0 → v ≡ accepted) → firstRefusal (v ∷ []) ≡ v
+unfolding firstRefusal
+first-one v h = orElse-end v h
 
 pub first-append : (us vs : List Verdict) → firstRefusal (us ++ vs) ≡ orElse (firstRefusal us) (firstRefusal vs)
 unfolding firstRefusal
@@ -105,6 +119,48 @@ shows-first (v ∷ vs) h =
       | no p ↦ (0, record { refuses = p; before = λ i q. absurd (not-suc-le-zero q) })
     ]
 
+-- ---- tests made by a rule
+each-test : (f : ℕ → Verdict) (n j : ℕ) → j < n → getD (each f 0 n) j accepted ≡ f j
+each-test f n j h = each-at f 0 n j accepted h ∙ ap f (zero-add j)
+
+each-accepted-from : (f : ℕ → Verdict) (i n : ℕ) → ((j : ℕ) → i ≤ j → j < i + n → f j .number ≡ 0) → firstRefusal (each f i n) ≡ accepted
+unfolding each firstRefusal
+each-accepted-from f i zero h = refl
+each-accepted-from f i (suc n) h =
+    orElse-pass (f i) _ (h i (omega arith) (omega arith)) ∙ each-accepted-from f (suc i) n (λ j p q. h j (omega arith) (omega arith))
+
+pub each-accepted : (f : ℕ → Verdict) (n : ℕ) → ((j : ℕ) → j < n → f j .number ≡ 0) → firstRefusal (each f 0 n) ≡ accepted
+each-accepted f n h = each-accepted-from f 0 n (λ j p q. h j (omega arith))
+
+pub each-passed : (f : ℕ → Verdict) (n j : ℕ) → j < n → firstRefusal (each f 0 n) .number ≡ 0 → f j .number ≡ 0
+each-passed f n j h e = sym (ap (λ (v : Verdict). v .number) (each-test f n j h)) ∙ accepted-passes (each f 0 n) e j
+
+pub each-shows : (f : ℕ → Verdict) (n j : ℕ) → j < n → ((i : ℕ) → i < j → f i .number ≡ 0) → (f j .number ≡ 0 → ⊥) → firstRefusal (each f 0 n) ≡ f j
+each-shows f n j h before refuses =
+    first-shows (each f 0 n) j
+    (record {
+      refuses = λ z. refuses (sym (number j h) ∙ z);
+      before = λ i p. number i (omega arith) ∙ before i p;
+    })
+    ∙ each-test f n j h
+  where
+    number : (i : ℕ) → i < n → getD (each f 0 n) i accepted .number ≡ f i .number
+    number i p = ap (λ (v : Verdict). v .number) (each-test f n i p)
+
+-- where every refusal has one number, so has the first
+pub each-number : (f : ℕ → Verdict) (m : ℕ) → ((j : ℕ) → (f j .number ≡ 0 → ⊥) → f j .number ≡ m)
+    → (i n : ℕ) → (firstRefusal (each f i n) .number ≡ 0 → ⊥) → firstRefusal (each f i n) .number ≡ m
+unfolding each firstRefusal
+each-number f m h i zero r = absurd (r refl)
+each-number f m h i (suc n) r =
+    elim (ℕ-discrete (f i .number) 0) [
+      | yes p ↦ number (orElse-pass (f i) _ p) ∙ each-number f m h (suc i) n (λ z. r (number (orElse-pass (f i) _ p) ∙ z))
+      | no p ↦ number (orElse-hit (f i) _ p) ∙ h i p
+    ]
+  where
+    number : {u v : Verdict} → u ≡ v → u .number ≡ v .number
+    number e = ap (λ (x : Verdict). x .number) e
+
 -- ---- a loop over tests that returns the first refusal: what is left gives the whole answer
 module _ (f : ℕ → Verdict) (k n : ℕ) where
   pub search-hit : k < n → (f k .number ≡ 0 → ⊥) → firstRefusal (each f k (n - k)) ≡ f k
@@ -113,6 +169,25 @@ module _ (f : ℕ → Verdict) (k n : ℕ) where
   pub search-pass : k < n → f k .number ≡ 0 → firstRefusal (each f k (n - k)) ≡ firstRefusal (each f (k + 1) (n - (k + 1)))
   search-pass h r = ap firstRefusal (each-next f k n h) ∙ first-cons _ _ ∙ orElse-pass _ _ r
 
+  -- the same where the code holds the test's verdict
+  pub found-hit : (v : Verdict) → v ≡ f k → k < n → (v .number ≡ 0 → ⊥) → firstRefusal (each f k (n - k)) ≡ v
+  found-hit v is h r = search-hit h (λ z. r (ap (λ (x : Verdict). x .number) is ∙ z)) ∙ sym is
+
+  pub found-pass : (v : Verdict) → v ≡ f k → k < n → v .number ≡ 0 → firstRefusal (each f k (n - k)) ≡ firstRefusal (each f (k + 1) (n - (k + 1)))
+  found-pass v is h r = search-pass h (sym (ap (λ (x : Verdict). x .number) is) ∙ r)
+
   pub search-end : n ≤ k → firstRefusal (each f k (n - k)) ≡ accepted
   unfolding firstRefusal
   search-end h = ap firstRefusal (each-none f k n h)
+
+-- ---- the search over n records of w tests is the search over the records
+pub first-records : (f : ℕ → Verdict) (w k n : ℕ) → firstRefusal (each f (w * k) (w * n)) ≡ firstRefusal (each (λ i. firstRefusal (each f (w * i) w)) k n)
+unfolding each
+first-records f w k zero = ap (λ (m : ℕ). firstRefusal (each f (w * k) m)) (mul-zero w)
+first-records f w k (suc n) =
+    ap (λ (m : ℕ). firstRefusal (each f (w * k) m)) (mul-suc w n ∙ add-comm (w * n) w)
+    ∙ ap firstRefusal (each-split f (w * k) w (w * n))
+    ∙ first-append (each f (w * k) w) (each f (w * k + w) (w * n))
+    ∙ ap (λ (m : ℕ). orElse (firstRefusal (each f (w * k) w)) (firstRefusal (each f m (w * n)))) (sym (mul-suc w k))
+    ∙ ap (orElse (firstRefusal (each f (w * k) w))) (first-records f w (suc k) n)
+    ∙ sym (first-cons _ _)

@@ -1,16 +1,12 @@
-use borrow.Author.Needs.{needs}
+-- `image::codes::code_if` meets its contract: its test is the definition's. Assumes nothing.
 use Rattle.image.proofs.codes.code_if.Statement.{statement}
 use Rattle.image.proofs.codes.code_if.Tie as tie
-use Rattle.image.proofs.codes.code_if.Reads as reads
-use Rattle.image.proofs.codes.code_if.Lts as lts
 
--- src/codes.rt:203:1
 returns : tie.Need-returns
-returns c = ?
+returns c = rw (c .if1 .taken)
 
--- src/codes.rt:203:1
 returns-2 : tie.Need-returns-2
-returns-2 c = search needs
+returns-2 c = rw (c .if1 .left)
 
 pub code-if-spec : {M : Type 1} → statement M
 code-if-spec = tie.close (tie.spec returns returns-2)

@@ -1,57 +1,52 @@
+-- `image::codes::input` meets its contract: a field of two bits is an index below four, and of one bit below two. Assumes nothing.
+use borrow.Author.Tests.{lt-ltb, le-ltb, eq-eqb, ne-eqb}
 use borrow.Author.Needs.{needs}
+use Rattle.records.proofs.BitLaws.{bits-lt}
+use Rattle.records.proofs.ListLaws.{getD-default}
+use Rattle.image.specs.Codes.{highRanges, functions}
+use Rattle.image.specs.declared.settings.Input.the-variants.{VpMid, VhLow, AnalogFault}
+use Rattle.image.specs.Reading.{inputOf}
 use Rattle.image.proofs.codes.input.Statement.{statement}
 use Rattle.image.proofs.codes.input.Tie as tie
-use Rattle.image.proofs.codes.input.Reads as reads
-use Rattle.image.proofs.codes.input.Lts as lts
-use Rattle.records.proofs.field.Reads as field-reads
 
--- src/codes.rt:110:23
 field-requires : tie.Need-field-requires
 field-requires c κs = search needs
 
--- src/codes.rt:110:23
 cast-result : tie.Need-cast-result
 cast-result c = search needs
 
--- src/codes.rt:110:16
 array-copy-out-result : tie.Need-array-copy-out-result
-array-copy-out-result c = ?
+array-copy-out-result c = rw (c .field .ensures) (bits-lt _ 0 2)
 
--- src/codes.rt:110:9
 returns : tie.Need-returns
-returns c = ?
+unfolding inputOf
+returns c = rw (lt-ltb _ _ (c .before .before .if1 .taken), c .before .field .ensures)
 
--- src/codes.rt:113:28
 field-requires-2 : tie.Need-field-requires-2
 field-requires-2 c κs = search needs
 
--- src/codes.rt:113:28
 cast-result-2 : tie.Need-cast-result-2
 cast-result-2 c = search needs
 
--- src/codes.rt:113:16
 array-copy-out-result-2 : tie.Need-array-copy-out-result-2
-array-copy-out-result-2 c = ?
+array-copy-out-result-2 c = rw (c .field2 .ensures) (bits-lt _ 0 1)
 
--- src/codes.rt:113:9
 returns-2 : tie.Need-returns-2
-returns-2 c = ?
+unfolding inputOf
+returns-2 c = rw (le-ltb _ _ (c .before .before .before .if1 .left), eq-eqb _ _ (c .before .before .if2 .taken), c .before .field2 .ensures) (getD-default highRanges _ VpMid VhLow (bits-lt _ 0 1))
 
--- src/codes.rt:115:15
 field-requires-3 : tie.Need-field-requires-3
 field-requires-3 c κs = search needs
 
--- src/codes.rt:115:15
 cast-result-3 : tie.Need-cast-result-3
 cast-result-3 c = search needs
 
--- src/codes.rt:115:5
 array-copy-out-result-3 : tie.Need-array-copy-out-result-3
-array-copy-out-result-3 c = ?
+array-copy-out-result-3 c = rw (c .field3 .ensures) (bits-lt _ 0 2)
 
--- src/codes.rt:106:1
 returns-3 : tie.Need-returns-3
-returns-3 c = ?
+unfolding inputOf
+returns-3 c = rw (le-ltb _ _ (c .before .before .before .if1 .left), ne-eqb _ _ (c .before .before .if2 .left), c .before .field3 .ensures) (getD-default functions _ VpMid AnalogFault (bits-lt _ 0 2))
 
 pub input-spec : {M : Type 1} → statement M
 input-spec =

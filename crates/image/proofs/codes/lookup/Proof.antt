@@ -1,49 +1,46 @@
+-- `image::codes::lookup` meets its contract: what is left of the table gives the whole answer. Assumes nothing.
+use Prim.Native.Nat.{_-_, _≤_}
+use mathlib.Core.Path.{_≡_, refl, sym, _∙_}
+use native.Mathlib.Omega.{arith}
+use borrow.Author.Needs.{needs}
+use lib.ListN.{length, drop}
+use Rattle.image.specs.Codes.{lookupFrom, lookup}
+use Rattle.image.proofs.CodeLaws.{lookup-hit, lookup-pass, lookup-end}
 use Rattle.image.proofs.codes.lookup.Statement.{statement}
 use Rattle.image.proofs.codes.lookup.Tie as tie
-use Rattle.image.proofs.codes.lookup.Reads as reads
-use Rattle.image.proofs.codes.lookup.Lts as lts
 
 abbrev Inv-loop : tie.InvT-loop
-Inv-loop table value i₀ i = ?
+Inv-loop table value i₀ i = (i ≤ length table) × (lookup table value ≡ lookupFrom i (drop i table) value)
 
 abbrev μ-loop : tie.MeasureT-loop
-μ-loop table value i₀ i = ?
+μ-loop table value i₀ i = length table - i
 
--- src/codes.rt:136:5
 loop-holds : tie.Need-loop-holds Inv-loop μ-loop
-loop-holds c = ?
+loop-holds c = (omega arith, refl)
 
--- src/codes.rt:137:12
 mul-if1 : tie.Need-mul-if1 Inv-loop μ-loop
-mul-if1 c = ?
+mul-if1 c = search needs
 
--- src/codes.rt:137:12
 shared-slice-read-if1 : tie.Need-shared-slice-read-if1 Inv-loop μ-loop
-shared-slice-read-if1 c = ?
+shared-slice-read-if1 c = search needs
 
--- src/codes.rt:138:29
 cast-t8 : tie.Need-cast-t8 Inv-loop μ-loop
-cast-t8 c = ?
+cast-t8 c = omega arith
 
--- src/codes.rt:138:13
 returns : tie.Need-returns Inv-loop μ-loop
-returns c = ?
+returns c = sym (c .before .before .before .loop .inv .1 ∙ lookup-hit _ _ _ (c .before .before .loop-test .taken) (c .if1 .taken))
 
--- src/codes.rt:140:9
 add-i : tie.Need-add-i Inv-loop μ-loop
-add-i c = ?
+add-i c = omega arith
 
--- src/codes.rt:136:5
 loop-less : tie.Need-loop-less Inv-loop μ-loop
-loop-less c = ?
+loop-less c = omega arith
 
--- src/codes.rt:136:5
 loop-again : tie.Need-loop-again Inv-loop μ-loop
-loop-again c = ?
+loop-again c = (omega arith, c .before .before .before .loop .inv .1 ∙ lookup-pass _ _ _ (c .before .before .loop-test .taken) (c .if1 .left))
 
--- src/codes.rt:131:1
 returns-2 : tie.Need-returns-2 Inv-loop μ-loop
-returns-2 c = ?
+returns-2 c = sym (c .before .loop .inv .1 ∙ lookup-end _ _ _ (c .loop-test .left))
 
 pub lookup-spec : {M : Type 1} → statement M
 lookup-spec =

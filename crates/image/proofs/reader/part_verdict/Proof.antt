@@ -1,59 +1,59 @@
+-- `image::reader::part_verdict` meets its contract: what is left of the tests gives the whole answer. Assumes nothing.
+use Prim.Native.Nat.{_-_, _≤_}
+use mathlib.Core.Path.{_≡_, refl, sym, _∙_}
+use native.Mathlib.Omega.{arith}
+use borrow.Author.Needs.{needs}
+use Rattle.records.specs.Lists.{each}
+use Rattle.records.specs.Verdicts.{firstRefusal}
+use Rattle.records.proofs.VerdictLaws.{found-hit, found-pass, search-end}
+use Rattle.image.specs.Reading.{partVerdict}
+use Rattle.image.proofs.ReadingLaws.{partTest}
 use Rattle.image.proofs.reader.part_verdict.Statement.{statement}
 use Rattle.image.proofs.reader.part_verdict.Tie as tie
-use Rattle.image.proofs.reader.part_verdict.Reads as reads
-use Rattle.image.proofs.reader.part_verdict.Lts as lts
-use Rattle.image.proofs.reader.byte_verdict.Reads as byte-verdict-reads
-use Rattle.records.proofs.refuse_unless.Reads as refuse-unless-reads
 
 abbrev Inv-loop : tie.InvT-loop
-Inv-loop k part j₀ j = ?
+Inv-loop k part j₀ j = (j ≤ 8) × (partVerdict k part ≡ firstRefusal (each (partTest k part) j (8 - j)))
 
 abbrev μ-loop : tie.MeasureT-loop
-μ-loop k part j₀ j = ?
+μ-loop k part j₀ j = 8 - j
 
--- src/reader.rt:68:5
 loop-holds : tie.Need-loop-holds Inv-loop μ-loop
-loop-holds c = ?
+unfolding partVerdict
+loop-holds c = (omega arith, refl)
 
--- src/reader.rt:69:42
 shared-slice-read-byte-verdict : tie.Need-shared-slice-read-byte-verdict Inv-loop μ-loop
-shared-slice-read-byte-verdict c = ?
+shared-slice-read-byte-verdict c = omega arith
 
--- src/reader.rt:69:51
 mul-byte-verdict : tie.Need-mul-byte-verdict Inv-loop μ-loop
-mul-byte-verdict c = ?
+mul-byte-verdict c = omega arith
 
--- src/reader.rt:69:51
 add-byte-verdict : tie.Need-add-byte-verdict Inv-loop μ-loop
-add-byte-verdict c = ?
+add-byte-verdict c = omega arith
 
--- src/reader.rt:69:13
 byte-verdict-requires : tie.Need-byte-verdict-requires Inv-loop μ-loop
-byte-verdict-requires c κs = ?
+byte-verdict-requires c κs = search needs
 
--- src/reader.rt:71:13
 returns : tie.Need-returns Inv-loop μ-loop
-returns c = ?
+returns c =
+    let turn = c .before .before .before .before in
+    sym (turn .before .loop .inv .1 ∙ found-hit _ _ 8 _ (c .before .before .byte-verdict .ensures) (turn .loop-test .taken) (c .if1 .taken))
 
--- src/reader.rt:73:9
 add-j : tie.Need-add-j Inv-loop μ-loop
-add-j c = ?
+add-j c = omega arith
 
--- src/reader.rt:68:5
 loop-less : tie.Need-loop-less Inv-loop μ-loop
-loop-less c = ?
+loop-less c = omega arith
 
--- src/reader.rt:68:5
 loop-again : tie.Need-loop-again Inv-loop μ-loop
-loop-again c = ?
+loop-again c =
+    let turn = c .before .before .before .before in
+    (omega arith, turn .before .loop .inv .1 ∙ found-pass _ _ 8 _ (c .before .before .byte-verdict .ensures) (turn .loop-test .taken) (c .if1 .left))
 
--- src/reader.rt:75:5
 refuse-unless-requires : tie.Need-refuse-unless-requires Inv-loop μ-loop
-refuse-unless-requires c κs = ?
+refuse-unless-requires c κs = search needs
 
--- src/reader.rt:62:1
 returns-2 : tie.Need-returns-2 Inv-loop μ-loop
-returns-2 c = ?
+returns-2 c = c .refuse-unless .ensures ∙ sym (c .before .before .loop .inv .1 ∙ search-end _ _ 8 (c .before .loop-test .left))
 
 pub part-verdict-spec : {M : Type 1} → statement M
 part-verdict-spec =

@@ -1,48 +1,43 @@
+-- `image::reader::read_logic` meets its contract: a field is below its table's length. Assumes nothing.
 use borrow.Author.Needs.{needs}
+use borrow.Author.Tests.{le-leb, lt-leb}
+use Rattle.records.proofs.BitLaws.{bits-lt}
+use Rattle.image.specs.Reading.{logicOf}
 use Rattle.image.proofs.reader.read_logic.Statement.{statement}
 use Rattle.image.proofs.reader.read_logic.Tie as tie
-use Rattle.image.proofs.reader.read_logic.Reads as reads
-use Rattle.image.proofs.reader.read_logic.Lts as lts
-use Rattle.image.proofs.codes.pulse.Reads as pulse-reads
-use Rattle.image.proofs.codes.time.Reads as time-reads
-use Rattle.image.proofs.settings.no_logic.Reads as no-logic-reads
-use Rattle.records.proofs.field.Reads as field-reads
 
--- src/reader.rt:157:9
 no-logic-requires : tie.Need-no-logic-requires
 no-logic-requires c κs = search needs
 
--- src/reader.rt:157:9
 returns : tie.Need-returns
-returns c = ?
+unfolding logicOf
+returns c = rw (lt-leb _ _ (c .before .if1 .taken), c .no-logic .ensures)
 
--- src/reader.rt:160:17
 field-requires : tie.Need-field-requires
 field-requires c κs = search needs
 
--- src/reader.rt:161:15
 field-requires-2 : tie.Need-field-requires-2
 field-requires-2 c κs = search needs
 
--- src/reader.rt:162:29
 field-requires-3 : tie.Need-field-requires-3
 field-requires-3 c κs = search needs
 
--- src/reader.rt:162:16
 pulse-requires : tie.Need-pulse-requires
-pulse-requires c κs = ?
+pulse-requires c κs = rw (c .field3 .ensures) (bits-lt _ 3 2)
 
--- src/reader.rt:163:28
 field-requires-4 : tie.Need-field-requires-4
 field-requires-4 c κs = search needs
 
--- src/reader.rt:163:16
 time-requires : tie.Need-time-requires
-time-requires c κs = ?
+time-requires c κs = rw (c .field4 .ensures) (bits-lt _ 0 3)
 
--- src/reader.rt:153:1
 returns-2 : tie.Need-returns-2
-returns-2 c = ?
+unfolding logicOf
+returns-2 c =
+    let pulse = c .before .before in
+    let edge = pulse .before .before in
+    let invert = edge .before in
+    rw (le-leb _ _ (invert .before .if1 .left), invert .field .ensures, edge .field2 .ensures, pulse .pulse .ensures, pulse .before .field3 .ensures, c .time .ensures, c .before .field4 .ensures)
 
 pub read-logic-spec : {M : Type 1} → statement M
 read-logic-spec =

@@ -1,31 +1,27 @@
+-- `image::reader::read_output` meets its contract: a field is below its table's length. Assumes nothing.
 use borrow.Author.Needs.{needs}
+use Rattle.records.proofs.BitLaws.{bits-lt}
+use Rattle.image.specs.Reading.{outputOf}
 use Rattle.image.proofs.reader.read_output.Statement.{statement}
 use Rattle.image.proofs.reader.read_output.Tie as tie
-use Rattle.image.proofs.reader.read_output.Reads as reads
-use Rattle.image.proofs.reader.read_output.Lts as lts
-use Rattle.image.proofs.codes.pull.Reads as pull-reads
-use Rattle.image.proofs.codes.source.Reads as source-reads
-use Rattle.records.proofs.field.Reads as field-reads
 
--- src/reader.rt:171:31
 field-requires : tie.Need-field-requires
 field-requires c κs = search needs
 
--- src/reader.rt:171:17
 source-requires : tie.Need-source-requires
-source-requires c κs = ?
+source-requires c κs = rw (c .field .ensures) (bits-lt _ 4 3)
 
--- src/reader.rt:172:27
 field-requires-2 : tie.Need-field-requires-2
 field-requires-2 c κs = search needs
 
--- src/reader.rt:172:15
 pull-requires : tie.Need-pull-requires
-pull-requires c κs = ?
+pull-requires c κs = rw (c .field2 .ensures) (bits-lt _ 0 4)
 
--- src/reader.rt:167:1
 returns : tie.Need-returns
-returns c = ?
+unfolding outputOf
+returns c =
+    let source = c .before .before in
+    rw (source .source .ensures, source .before .field .ensures, c .pull .ensures, c .before .field2 .ensures)
 
 pub read-output-spec : {M : Type 1} → statement M
 read-output-spec =

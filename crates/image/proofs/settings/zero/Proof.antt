@@ -1,25 +1,23 @@
+-- `image::settings::zero` meets its contract: code 0 of byte 5 is that of the group's own table. Assumes nothing.
 use borrow.Author.Needs.{needs}
+use Rattle.records.specs.Lists.{each}
+use Rattle.records.specs.Bits.{bits}
+use Rattle.image.specs.Reading.{zeroSettings, zeroGroup, inputOf}
 use Rattle.image.proofs.settings.zero.Statement.{statement}
 use Rattle.image.proofs.settings.zero.Tie as tie
-use Rattle.image.proofs.settings.zero.Reads as reads
-use Rattle.image.proofs.settings.zero.Lts as lts
-use Rattle.image.proofs.settings.zero_group.Reads as zero-group-reads
 
--- src/settings.rt:84:9
 zero-group-requires : tie.Need-zero-group-requires
 zero-group-requires c κs = search needs
 
--- src/settings.rt:85:9
 zero-group-requires-2 : tie.Need-zero-group-requires-2
 zero-group-requires-2 c κs = search needs
 
--- src/settings.rt:86:9
 zero-group-requires-3 : tie.Need-zero-group-requires-3
 zero-group-requires-3 c κs = search needs
 
--- src/settings.rt:81:1
 returns : tie.Need-returns
-returns c = ?
+unfolding zeroSettings zeroGroup inputOf each bits
+returns c = rw (c .before .before .zero-group .ensures, c .before .zero-group2 .ensures, c .zero-group3 .ensures)
 
 pub zero-spec : {M : Type 1} → statement M
 zero-spec =

@@ -1,11 +1,13 @@
+-- `image::writer::blank` meets its contract: the repeated array computes to the definition's eighty zeros. Assumes nothing.
+use mathlib.Core.Path.{refl}
+use Rattle.records.specs.Lists.{each}
+use Rattle.image.specs.Writing.{blankImage}
 use Rattle.image.proofs.writer.blank.Statement.{statement}
 use Rattle.image.proofs.writer.blank.Tie as tie
-use Rattle.image.proofs.writer.blank.Reads as reads
-use Rattle.image.proofs.writer.blank.Lts as lts
 
--- src/writer.rt:12:1
 returns : tie.Need-returns
-returns c = ?
+unfolding blankImage each
+returns c = refl
 
 pub blank-spec : {M : Type 1} → statement M
 blank-spec = tie.close (tie.spec returns)

@@ -1,0 +1,17 @@
+pub mod TestLaws
+pub mod TableLaws
+pub mod GroupLaws
+pub mod ByteLaws
+pub mod Conditions
+pub mod AcceptanceLaws
+pub mod Acceptance
+pub mod Refusals
+pub mod CodeTheorems
+pub mod ReadWriteLaws
+pub mod WriteReadLaws
+pub mod InputTheorems
+pub mod RoundTripLaws
+pub mod RoundTrip
+pub mod NormalImages
+pub mod Meanings
+pub mod Starred
