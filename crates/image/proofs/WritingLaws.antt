@@ -19,7 +19,7 @@ use Rattle.records.specs.Verdicts.{accepted, refusedUnless, orElse, firstRefusa
 use Rattle.records.specs.declared.verdict.Verdict.{Verdict}
 use Rattle.records.proofs.BitLaws.{joined-sum}
 use Rattle.records.proofs.ListLaws.{getD-default, each-ext, each-record}
-use Rattle.records.proofs.VerdictLaws.{orElse-pass, orElse-hit, first-cons, first-one, first-accepted, each-accepted, each-passed, each-shows, each-number, first-records}
+use Rattle.records.proofs.VerdictLaws.{orElse-pass, orElse-hit, first-cons, first-one, first-accepted, tests-accepted, accepted-tests, lowest-shows, each-number, first-records}
 use Rattle.image.specs.Codes.{codeNumber, codeValue, lookup, times, pulses, faultCode, inputCode, sourceCode, pullCode}
 use Rattle.image.specs.Reading.{zeroGroup}
 use Rattle.image.specs.Writing.{beside, flag, hysteresisByte, timingByte, pinLogicByte, logicByte, outputByte, groupBytes, settingByte, codeVerdict, settingsVerdict, writeVerdict, imageOf, written, groupVerdict, refusedAt, encoded}
@@ -102,9 +102,11 @@ module _ (k : ℕ) (group : Group) where
   verdict-at : (j : ℕ) → j < 8 → Coded k group j → codeAt k group j ≡ Lacking → groupVerdict k group ≡ codeVerdict Lacking (8 * k + j)
   unfolding groupVerdict
   verdict-at j h before lacks =
-      each-shows (λ i. codeVerdict (codeAt k group i) (8 * k + i)) 8 j h
-      (λ i p. code-passes (codeAt k group i) (8 * k + i) (before i p))
-      (λ z. let never : 4 ≡ 0 = sym (ap (λ (code : Code). codeVerdict code (8 * k + j) .number) lacks) ∙ z in omega arith)
+      lowest-shows (λ i. codeVerdict (codeAt k group i) (8 * k + i)) 8 j (record {
+        inside = h;
+        refuses = λ z. let never : 4 ≡ 0 = sym (ap (λ (code : Code). codeVerdict code (8 * k + j) .number) lacks) ∙ z in omega arith;
+        before = λ i p. code-passes (codeAt k group i) (8 * k + i) (before i p);
+      })
       ∙ ap (λ (code : Code). codeVerdict code (8 * k + j)) lacks
 
   refused-at : (j : ℕ) → j < 8 → Coded k group j → codeAt k group j ≡ Lacking → refusedAt (8 * k + j) ≡ encoded k group
@@ -114,7 +116,7 @@ module _ (k : ℕ) (group : Group) where
   all-coded : Coded k group 8 → _≡_ {A = Encoded} (record { number = 0; place = 0; bytes = each (λ j. codeValue (codeAt k group j)) 0 8 }) (encoded k group)
   unfolding encoded groupVerdict
   all-coded before =
-      rw (each-accepted (λ i. codeVerdict (codeAt k group i) (8 * k + i)) 8 (λ i p. code-passes (codeAt k group i) (8 * k + i) (before i p)))
+      rw (tests-accepted (λ i. codeVerdict (codeAt k group i) (8 * k + i)) 8 (λ i p. code-passes (codeAt k group i) (8 * k + i) (before i p)))
 
   -- byte by byte, as the encoder tests them
   level-coded : Coded k group 1
@@ -250,7 +252,7 @@ module _ (settings : Settings) where
   group-bytes accepts k d answer is ten h =
       ap (λ (e : Encoded). e .bytes) (is ∙ ap (encoded k) (getD-default (settings .groups) k d (zeroGroup k) (omega arith)))
       ∙ encoded-bytes k (groupIn (settings .groups) k)
-      (each-passed (settingsTest (settings .groups)) 10 k h (sym (ap (λ (v : Verdict). v .number) settings-groups) ∙ accepts))
+      (accepted-tests (settingsTest (settings .groups)) 10 (sym (ap (λ (v : Verdict). v .number) settings-groups) ∙ accepts) k h)
       ∙ sym (each-record (λ q r a. codeValue (codeAt q (groupIn (settings .groups) q) r)) 8 k)
 
 -- ---- the writer's answer and the buffer

@@ -25,7 +25,10 @@ use Rattle.image.specs.declared.reader.Reading.{Reading}
 
 -- ---- acceptance
 
--- the lowest reserved bit of each of a group's eight bytes, 8 where none is. "Bytes 1 and 3: ... bits 7:5 reserved"; byte 4 "bits 7:5 reserved"; byte 5 "VP: range in bits 1:0 ..., rest reserved. VH: bit 0 ..., rest reserved. VX: function in bits 1:0 ..., rest reserved"; byte 6 "VX only. Bit 7 reserved", and "In VP and VH groups this byte is unlisted", so that no bit of it may be set; byte 7 "Bit 7 reserved"
+-- the lowest reserved bit of each of a group's eight bytes, 8 where none is reserved:
+-- "Bytes 1 and 3: hysteresis in bits 4:0, bits 7:5 reserved"; byte 4 "bits 7:5 reserved";
+-- byte 5 "VP: range in bits 1:0 ..., rest reserved. VH: bit 0 ..., rest reserved. VX: function in bits 1:0 ..., rest reserved";
+-- byte 6 "VX only. Bit 7 reserved", and "In VP and VH groups this byte is unlisted", so that no bit of it may be set; byte 7 "Bit 7 reserved"
 unfoldable pub reservedFrom : ℕ → ℕ → ℕ
 reservedFrom k j = getD (8 ∷ 5 ∷ 8 ∷ 5 ∷ 5 ∷ cond (isVH k) 1 2 ∷ cond (isVX k) 7 0 ∷ 7 ∷ []) j 8
 

@@ -101,7 +101,7 @@ written settings buffer = cond (eqb (writeVerdict settings buffer .number) 0) (i
 
 -- "The blank image is eighty zero bytes"
 unfoldable pub blankImage : List ℕ
-blankImage = each (λ address. 0) 0 80
+blankImage = replicate 80 0
 
 -- ---- one group, as the encoder answers it
 

@@ -12,13 +12,12 @@ use lib.Dec.{eqb, lit<}
 use Rattle.records.specs.Lists.{each}
 use Rattle.records.specs.Numbers.{wrong-length, reserved, unprinted, out-of-range}
 use Rattle.records.specs.Verdicts.{accepted, refusedUnless, orElse, firstRefusal}
-use Rattle.records.proofs.VerdictLaws.{orElse-pass, orElse-end, first-accepted}
 use Rattle.image.specs.Reading.{addressVerdict, imageVerdict}
 use Rattle.image.specs.Writing.{settingByte, settingsVerdict, writeVerdict}
 use Rattle.image.specs.declared.settings.Settings.{Settings}
 use Rattle.image_laws.proofs.Conditions.{usableAt, printedAt, GoodBelow, Reached, ImageAnswer, MeantBelow, LowestLacking, SettingsAnswer}
 use Rattle.image_laws.proofs.AcceptanceLaws.{unlike, good-passes, bit-refused, code-refused, passes-good, Refused, refused-number, refused-bit, refused-code, another-length, of-eighty, eighty-of, reached-refused, refused-reached, refused-at, meant-passes, passes-meant, tests, lacking-shows, shows-lacking}
-use Rattle.image_laws.proofs.TestLaws.{numberOf, placeOf, tests-accepted, accepted-tests}
+use Rattle.records.proofs.VerdictLaws.{numberOf, placeOf, orElse-pass, orElse-end, first-accepted, tests-accepted, accepted-tests}
 
 -- ---- an image
 -- accepted exactly when it has eighty bytes, and at every address a byte that can be used and is printed

@@ -19,7 +19,7 @@ use Rattle.image.specs.declared.codes.Code.the-variants.{Is, Lacking}
 use Rattle.image.specs.declared.settings.Settings.{Settings}
 use Rattle.image_laws.proofs.TableLaws.{never-lacking}
 use Rattle.image_laws.proofs.Conditions.{GoodByte, Reached, LowestLacking}
-use Rattle.image_laws.proofs.TestLaws.{numberOf, placeOf, lowest-shows, shows-lowest}
+use Rattle.records.proofs.VerdictLaws.{numberOf, placeOf, lowest-shows, shows-lowest}
 
 -- two numbers that differ
 pub unlike : {A : Type 0} {m n : ℕ} → m ≡ n → T (not (eqb m n)) → A

@@ -1,4 +1,3 @@
-pub mod TestLaws
 pub mod TableLaws
 pub mod GroupLaws
 pub mod ByteLaws

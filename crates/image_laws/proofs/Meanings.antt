@@ -17,7 +17,7 @@ use Rattle.image.specs.declared.settings.FaultType.{FaultType}
 use Rattle.image.specs.declared.settings.Group.{Group}
 use Rattle.image.specs.declared.settings.Settings.{Settings}
 use Rattle.image_laws.proofs.TableLaws.{never-lacking}
-use Rattle.image_laws.proofs.TestLaws.{numberOf}
+use Rattle.records.proofs.VerdictLaws.{numberOf}
 use Rattle.image_laws.proofs.Refusals.{image-length}
 use Rattle.image_laws.proofs.RoundTripLaws.{meant-at}
 use Rattle.image_laws.proofs.RoundTrip.{image-of-accepted, settings-of-image-of, settings-of-accepted}

@@ -13,7 +13,7 @@ use Rattle.image.specs.Codes.{codeValue}
 use Rattle.image.specs.Reading.{imageVerdict, settingsOf, zeroSettings, reading}
 use Rattle.image.specs.Writing.{settingByte, writeVerdict, imageOf, written}
 use Rattle.image.specs.declared.settings.Settings.{Settings}
-use Rattle.image_laws.proofs.TestLaws.{numberOf}
+use Rattle.records.proofs.VerdictLaws.{numberOf}
 use Rattle.image_laws.proofs.Acceptance.{image-zero, write-wrong-length}
 
 -- ---- the reader's answer

@@ -5,13 +5,13 @@ use mathlib.Core.Bool.{Bool, true, false}
 use mathlib.Core.List.{List, [], _∷_, _++_}
 use native.Mathlib.Nat.{not-suc-le-zero, le-of-suc-le-suc, mul-zero, mul-suc, add-comm, zero-add}
 use native.Mathlib.Omega.{arith}
-use native.Mathlib.Decide.{ℕ-discrete}
+use native.Mathlib.Decide.{ℕ-discrete, decLt}
 use borrow.Author.Tests.{eq-eqb, ne-eqb}
-use lib.ListN.{getD}
+use lib.ListN.{getD, List·getD-eq-default}
 use Rattle.records.specs.Verdicts.{accepted, refusedUnless, orElse, firstRefusal}
 use Rattle.records.specs.Lists.{each}
 use Rattle.records.specs.declared.verdict.Verdict.{Verdict}
-use Rattle.records.proofs.ListLaws.{each-next, each-none, each-split, each-at}
+use Rattle.records.proofs.ListLaws.{each-next, each-none, each-split, each-at, each-length}
 
 -- ---- one test
 -- a test that refuses with a number passes only where it holds
@@ -119,33 +119,59 @@ shows-first (v ∷ vs) h =
       | no p ↦ (0, record { refuses = p; before = λ i q. absurd (not-suc-le-zero q) })
     ]
 
--- ---- tests made by a rule
-each-test : (f : ℕ → Verdict) (n j : ℕ) → j < n → getD (each f 0 n) j accepted ≡ f j
-each-test f n j h = each-at f 0 n j accepted h ∙ ap f (zero-add j)
+-- ---- a test of each number below n: accepted exactly when all pass, and the lowest refusal shows
+abbrev pub numberOf : Verdict → ℕ
+numberOf verdict = verdict .number
 
-each-accepted-from : (f : ℕ → Verdict) (i n : ℕ) → ((j : ℕ) → i ≤ j → j < i + n → f j .number ≡ 0) → firstRefusal (each f i n) ≡ accepted
-unfolding each firstRefusal
-each-accepted-from f i zero h = refl
-each-accepted-from f i (suc n) h =
-    orElse-pass (f i) _ (h i (omega arith) (omega arith)) ∙ each-accepted-from f (suc i) n (λ j p q. h j (omega arith) (omega arith))
+abbrev pub placeOf : Verdict → ℕ
+placeOf verdict = verdict .place
 
-pub each-accepted : (f : ℕ → Verdict) (n : ℕ) → ((j : ℕ) → j < n → f j .number ≡ 0) → firstRefusal (each f 0 n) ≡ accepted
-each-accepted f n h = each-accepted-from f 0 n (λ j p q. h j (omega arith))
+-- the test of a below n refuses, and all before it pass
+pub record Lowest (test : ℕ → Verdict) (n a : ℕ) : Type 0 where
+  pub inside : a < n
+  pub refuses : test a .number ≡ 0 → ⊥
+  pub before : (i : ℕ) → i < a → test i .number ≡ 0
 
-pub each-passed : (f : ℕ → Verdict) (n j : ℕ) → j < n → firstRefusal (each f 0 n) .number ≡ 0 → f j .number ≡ 0
-each-passed f n j h e = sym (ap (λ (v : Verdict). v .number) (each-test f n j h)) ∙ accepted-passes (each f 0 n) e j
+module _ (test : ℕ → Verdict) (n : ℕ) where
+  tested : (a : ℕ) → a < n → getD (each test 0 n) a accepted ≡ test a
+  tested a inside = each-at test 0 n a accepted inside ∙ ap test (zero-add a)
 
-pub each-shows : (f : ℕ → Verdict) (n j : ℕ) → j < n → ((i : ℕ) → i < j → f i .number ≡ 0) → (f j .number ≡ 0 → ⊥) → firstRefusal (each f 0 n) ≡ f j
-each-shows f n j h before refuses =
-    first-shows (each f 0 n) j
-    (record {
-      refuses = λ z. refuses (sym (number j h) ∙ z);
-      before = λ i p. number i (omega arith) ∙ before i p;
-    })
-    ∙ each-test f n j h
-  where
-    number : (i : ℕ) → i < n → getD (each f 0 n) i accepted .number ≡ f i .number
-    number i p = ap (λ (v : Verdict). v .number) (each-test f n i p)
+  untested : (a : ℕ) → n ≤ a → getD (each test 0 n) a accepted ≡ accepted
+  untested a past = List·getD-eq-default (each test 0 n) accepted (rw each-length past)
+
+  pub tests-accepted : ((a : ℕ) → a < n → test a .number ≡ 0) → firstRefusal (each test 0 n) ≡ accepted
+  tests-accepted pass =
+      passes-accepted (each test 0 n) λ a.
+      elim (decLt a n) [
+        | yes inside ↦ ap numberOf (tested a inside) ∙ pass a inside
+        | no outside ↦ ap numberOf (untested a (omega arith))
+      ]
+
+  pub accepted-tests : firstRefusal (each test 0 n) .number ≡ 0 → (a : ℕ) → a < n → test a .number ≡ 0
+  accepted-tests pass a inside = sym (ap numberOf (tested a inside)) ∙ accepted-passes (each test 0 n) pass a
+
+  pub lowest-shows : (a : ℕ) → Lowest test n a → firstRefusal (each test 0 n) ≡ test a
+  lowest-shows a low =
+      first-shows (each test 0 n) a (record {
+        refuses = λ pass. low .refuses (sym (ap numberOf (tested a (low .inside))) ∙ pass);
+        before = λ i below. ap numberOf (tested i (omega (arith, low .inside))) ∙ low .before i below;
+      })
+      ∙ tested a (low .inside)
+
+  first-lowest : (a : ℕ) → FirstAt (each test 0 n) a → Lowest test n a
+  first-lowest a first =
+      elim (decLt a n) [
+        | yes inside ↦
+            record {
+              inside = inside;
+              refuses = λ pass. first .refuses (ap numberOf (tested a inside) ∙ pass);
+              before = λ i below. sym (ap numberOf (tested i (omega arith))) ∙ first .before i below;
+            }
+        | no outside ↦ absurd (first .refuses (ap numberOf (untested a (omega arith))))
+      ]
+
+  pub shows-lowest : (firstRefusal (each test 0 n) .number ≡ 0 → ⊥) → (a : ℕ) × Lowest test n a
+  shows-lowest refused = let first = shows-first (each test 0 n) refused in (first .0, first-lowest (first .0) (first .1))
 
 -- where every refusal has one number, so has the first
 pub each-number : (f : ℕ → Verdict) (m : ℕ) → ((j : ℕ) → (f j .number ≡ 0 → ⊥) → f j .number ≡ m)

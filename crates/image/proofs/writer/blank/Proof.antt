@@ -1,12 +1,11 @@
 -- `image::writer::blank` meets its contract: the repeated array computes to the definition's eighty zeros. Assumes nothing.
 use mathlib.Core.Path.{refl}
-use Rattle.records.specs.Lists.{each}
 use Rattle.image.specs.Writing.{blankImage}
 use Rattle.image.proofs.writer.blank.Statement.{statement}
 use Rattle.image.proofs.writer.blank.Tie as tie
 
 returns : tie.Need-returns
-unfolding blankImage each
+unfolding blankImage
 returns c = refl
 
 pub blank-spec : {M : Type 1} → statement M

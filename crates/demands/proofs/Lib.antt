@@ -1,0 +1,2 @@
+pub mod Point2
+pub mod OneAnswer
