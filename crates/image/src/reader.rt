@@ -90,10 +90,8 @@ fn byte_verdict(k: usize, j: usize, byte: u8, address: usize) -> Verdict
     let from = reserved_from(k, j);
     let usable = field(byte, from, 8 - from) == 0;
     let first = refuse_unless(usable, RESERVED, address);
-    or_else(
-        first,
-        refuse_unless(is_printed(j, byte), UNPRINTED, address),
-    )
+    let second = refuse_unless(is_printed(j, byte), UNPRINTED, address);
+    or_else(first, second)
 }
 
 // The lowest reserved bit of byte j of group k, 8 where it has none.
