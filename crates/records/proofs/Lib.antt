@@ -2,3 +2,9 @@ pub mod BitLaws
 pub mod VerdictLaws
 pub mod ListLaws
 pub mod WordLaws
+pub mod Every
+pub mod TestLaws
+pub mod ReturnLaws
+pub mod PieceLaws
+pub mod TagLaws
+pub mod TagSearch

@@ -6,8 +6,8 @@ use native.Mathlib.Nat.{add-zero, zero-add, add-suc, suc-add, not-suc-le-zero, l
 use native.Mathlib.Numerals.{add-one}
 use native.Mathlib.Omega.{arith}
 use lib.Arith.{digits-div, digits-mod}
-use lib.ListN.{length, getD, take, drop, set, length-append, length-drop}
-use lib.Seq.{drop-cons, drop-drop, drop-length, take-at, drop-at, set-at, append-snoc, ext-getD}
+use lib.ListN.{length, getD, take, drop, set, length-append, length-drop, drop-of-length-le}
+use lib.Seq.{drop-cons, drop-drop, drop-length, take-at, drop-at, set-at, append-snoc, ext-getD, sets, sets-eq}
 use Rattle.records.specs.Lists.{each}
 
 module _ {ℓ} {A : Type ℓ} where
@@ -89,6 +89,13 @@ module _ {ℓ} {A : Type ℓ} where
           (ap (λ (n : ℕ). (n + r) / w) (mul-comm w k) ∙ digits-div k h)
           (ap (λ (n : ℕ). (n + r) % w) (mul-comm w k) ∙ digits-mod k h)
 
+  -- ---- a list that stores, one for each place from the first, fill whole
+  pub sets-whole : (vs l : List A) → length l ≡ length vs → sets l 0 vs ≡ vs
+  sets-whole vs l h =
+      let fits : 0 + length vs ≤ length l = omega arith in
+      let past : length l ≤ 0 + length vs = omega arith in
+      sets-eq vs l 0 fits ∙ ap (λ (rest : List A). vs ++ rest) (drop-of-length-le l past) ∙ append-nil vs
+
   -- ---- an array that a loop fills from the front
   pub fill-more : (f : ℕ → A) (l₀ : List A) (k : ℕ) (d : A) → k < length l₀
       → set (each f 0 k ++ drop k l₀) k (f k) ≡ each f 0 (k + 1) ++ drop (k + 1) l₀
@@ -111,20 +118,24 @@ module _ {ℓ} {A : Type ℓ} where
   pub filled-all : (f : ℕ → A) (l₀ l : List A) (k n : ℕ) → l ≡ each f 0 k ++ drop k l₀ → k ≡ n → length l₀ ≡ n → l ≡ each f 0 n
   filled-all f l₀ l k n is end whole = is ∙ ap (λ (m : ℕ). each f 0 m ++ drop m l₀) end ∙ fill-all f l₀ n whole
 
-  -- ---- a buffer whose parts of w elements are lent one after the other: the part for record k has come back
+  -- ---- a buffer whose parts are lent one after the other
+  -- the part of w elements from `at` on has come back
+  pub lent-part : (done part b₀ : List A) (at w : ℕ) → length done ≡ at
+      → take at (done ++ drop at b₀) ++ (part ++ drop w (drop at (done ++ drop at b₀))) ≡ done ++ part ++ drop (at + w) b₀
+  lent-part done part b₀ at w h =
+      ap₂ (λ (a b : List A). a ++ (part ++ drop w b)) (take-at done (drop at b₀) at h) (drop-at done (drop at b₀) at h)
+      ∙ sym (append-assoc done part (drop w (drop at b₀)))
+      ∙ ap (λ (l : List A). done ++ part ++ l) (drop-drop w at b₀)
+
+  -- the part for record k has come back
   pub lent-more : (f : ℕ → A) (b₀ : List A) (w k : ℕ)
       → take (w * k) (each f 0 (w * k) ++ drop (w * k) b₀) ++ (each f (w * k) w ++ drop w (drop (w * k) (each f 0 (w * k) ++ drop (w * k) b₀)))
       ≡ each f 0 (w * (k + 1)) ++ drop (w * (k + 1)) b₀
   lent-more f b₀ w k =
-      let done = each f 0 (w * k) in
       let more : w * (k + 1) ≡ w * k + w = ap (λ (m : ℕ). w * m) (add-one k) ∙ mul-suc w k in
-      ap₂ (λ (a b : List A). a ++ (each f (w * k) w ++ drop w b))
-      (take-at done (drop (w * k) b₀) (w * k) (each-length f 0 (w * k)))
-      (drop-at done (drop (w * k) b₀) (w * k) (each-length f 0 (w * k)))
-      ∙ sym (append-assoc done (each f (w * k) w) (drop w (drop (w * k) b₀)))
-      ∙ ap₂ (λ (a b : List A). a ++ b)
-      (ap (λ (m : ℕ). done ++ each f m w) (sym (zero-add (w * k))) ∙ sym (each-split f 0 (w * k) w))
-      (drop-drop w (w * k) b₀)
+      lent-part (each f 0 (w * k)) (each f (w * k) w) b₀ (w * k) w (each-length f 0 (w * k))
+      ∙ ap (λ (l : List A). l ++ drop (w * k + w) b₀)
+      (ap (λ (m : ℕ). each f 0 (w * k) ++ each f m w) (sym (zero-add (w * k))) ∙ sym (each-split f 0 (w * k) w))
       ∙ ap (λ (m : ℕ). each f 0 m ++ drop m b₀) (sym more)
 
   -- the same for the buffer and the part that the code holds

@@ -1,6 +1,6 @@
 -- Laws of verdicts: a test's refusal shows exactly when all before it pass. Assumes nothing.
 use Prim.Native.Nat.{ℕ, zero, suc, _+_, _-_, _*_, _≤_, _<_}
-use mathlib.Core.Path.{_≡_, refl, ap, sym, _∙_}
+use mathlib.Core.Path.{_≡_, refl, ap, ap₂, sym, _∙_}
 use mathlib.Core.Bool.{Bool, true, false}
 use mathlib.Core.List.{List, [], _∷_, _++_}
 use native.Mathlib.Nat.{not-suc-le-zero, le-of-suc-le-suc, mul-zero, mul-suc, add-comm, zero-add}
@@ -67,6 +67,19 @@ first-cons v vs = refl
 pub first-one : (v : Verdict) → (v .number ≡ 0 → v ≡ accepted) → firstRefusal (v ∷ []) ≡ v
 unfolding firstRefusal
 first-one v h = orElse-end v h
+
+-- no test is left, or the last by itself
+pub first-none : {r : Verdict} → r ≡ accepted → r ≡ firstRefusal []
+unfolding firstRefusal
+first-none r = r
+
+pub first-last : (holds : Bool) (number place : ℕ) → (number ≡ 0 → ⊥) → firstRefusal (refusedUnless holds number place ∷ []) ≡ refusedUnless holds number place
+first-last holds number place h = first-one (refusedUnless holds number place) (unless-accepted holds number place h)
+
+-- one more test before a list of tests, as code joins them from the last to the first
+pub first-tested : {u v w r : Verdict} (vs : List Verdict) → r ≡ orElse u w → u ≡ v → w ≡ firstRefusal vs → r ≡ firstRefusal (v ∷ vs)
+unfolding firstRefusal
+first-tested vs r u w = r ∙ ap₂ orElse u w
 
 pub first-append : (us vs : List Verdict) → firstRefusal (us ++ vs) ≡ orElse (firstRefusal us) (firstRefusal vs)
 unfolding firstRefusal

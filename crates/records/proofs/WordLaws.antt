@@ -37,6 +37,17 @@ pub wordOf-fits : (f : ℕ → Bool) (n : ℕ) → n < 16 → wordOf f n + bitWo
 wordOf-fits f n h =
     subst (λ (m : ℕ). m < 2 ^ 16) (sym (wordOf-more f n h)) (lt-of-lt-of-le (wordOf-lt f (n + 1)) (pow-mono (add-one-le h)))
 
+-- the same for the word and the bit that the code holds
+module _ (f : ℕ → Bool) (n word added : ℕ) (on : Bool) (reached : word ≡ wordOf f n) (bit : added ≡ bitWord on n) (is : on ≡ f n) (h : n < 16) where
+  is-sum : word + added ≡ wordOf f n + bitWord (f n) n
+  is-sum = ap₂ _+_ reached (bit ∙ ap (λ (b : Bool). bitWord b n) is)
+
+  pub added-more : word + added ≡ wordOf f (n + 1)
+  added-more = is-sum ∙ wordOf-more f n h
+
+  pub added-fits : word + added < 2 ^ 16
+  added-fits = subst (λ (m : ℕ). m < 2 ^ 16) (sym is-sum) (wordOf-fits f n h)
+
 -- a bit above leaves those below as they are
 below : (w n k : ℕ) (on : Bool) → k < n → bits (w + cond on (2 ^ n) 0) k 1 ≡ bits w k 1
 unfolding bits

@@ -1,0 +1,3 @@
+pub mod ExitLaws
+pub mod StandLaws
+pub mod FieldLaws

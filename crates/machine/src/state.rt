@@ -1,0 +1,65 @@
+// Where the engine stands. A state is made in three places: at the start, by entering, by staying.
+use crate::exits;
+use crate::exits::Exit;
+use crate::node::Node;
+ghost use mathlib.Core.Path.{_≡_};
+ghost use Rattle.machine.specs.Machine.{startState, enter as Machine·enter, stay as Machine·stay, after as Machine·after};
+ghost use Rattle.machine.specs.Machine.{due};
+ghost use Rattle.machine.specs.Fields.{elapsedInRange};
+ghost use mathlib.Core.Bool.{false};
+
+// The number of the step or cell, and the ticks since it was entered.
+pub struct State {
+    pub at: u8,
+    pub elapsed: u16,
+}
+
+pub fn start() -> State
+    ensures { λ r. ⌜ r ≡ startState ⌝ }
+{
+    enter(0)
+}
+
+fn enter(to: u8) -> State
+    ensures { λ r. ⌜ r ≡ Machine·enter to ⌝ }
+{
+    State { at: to, elapsed: 0 }
+}
+
+fn stay(node: Node, state: State) -> State
+    requires { ⌜ due node (state .elapsed) ≡ false ⌝ }
+    ensures { λ r. ⌜ r ≡ Machine·stay node state ⌝ }
+{
+    let elapsed = if node.timeout == 0 {
+        0
+    } else {
+        state.elapsed + 1
+    };
+    State {
+        at: state.at,
+        elapsed,
+    }
+}
+
+// The state after one tick at a node with a word.
+pub fn after(node: Node, word: u16, state: State) -> State
+    ensures { λ r. ⌜ r ≡ Machine·after node word state ⌝ }
+{
+    let exit = exits::exit_of(node, state.elapsed, word);
+    match exit {
+        Exit::Stay => stay(node, state),
+        Exit::Fault => enter(node.faultto),
+        Exit::Sequence => enter(node.sequenceto),
+        Exit::Timeout => enter(node.timeoutto),
+    }
+}
+
+// Elapsed below the larger of 1 and the timeout.
+pub fn elapsed_in_range(timeout: u16, elapsed: u16) -> bool
+    ensures { λ r. ⌜ r ≡ elapsedInRange timeout elapsed ⌝ }
+{
+    if timeout < 1 {
+        return elapsed < 1;
+    }
+    elapsed < timeout
+}

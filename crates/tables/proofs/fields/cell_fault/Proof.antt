@@ -1,0 +1,134 @@
+-- `tables::fields::cell_fault` meets its contract: its ten tests are the definition's, joined from the last to the first. Assumes nothing.
+use mathlib.Core.Path.{_≡_, ap, _∙_}
+use mathlib.Core.Bool.{Bool, not}
+use mathlib.Core.Logic.{⊎-elim}
+use borrow.Author.Needs.{needs}
+use borrow.Author.Tests.{eq-eqb, ne-eqb}
+use Rattle.records.specs.Verdicts.{refusedUnless}
+use Rattle.records.proofs.VerdictLaws.{first-none, first-tested}
+use Rattle.records.proofs.TestLaws.{or-left, or-right}
+use Rattle.machine.specs.Fields.{outputsInRange, maskInRange, channelInRange, levelInRange, levelAllowed}
+use Rattle.tables.specs.Tables.{cellFault}
+use Rattle.tables.proofs.fields.cell_fault.Statement.{statement}
+use Rattle.tables.proofs.fields.cell_fault.Tie as tie
+
+refuse-unless-requires : tie.Need-refuse-unless-requires
+refuse-unless-requires c κs = search needs
+
+refuse-unless-requires-2 : tie.Need-refuse-unless-requires-2
+refuse-unless-requires-2 c κs = search needs
+
+or-else-requires : tie.Need-or-else-requires
+or-else-requires c κs = search needs
+
+next-fault-requires : tie.Need-next-fault-requires
+next-fault-requires c κs = search needs
+
+or-else-requires-2 : tie.Need-or-else-requires-2
+or-else-requires-2 c κs = search needs
+
+refuse-unless-requires-3 : tie.Need-refuse-unless-requires-3
+refuse-unless-requires-3 c κs = search needs
+
+or-else-requires-3 : tie.Need-or-else-requires-3
+or-else-requires-3 c κs = search needs
+
+next-fault-requires-2 : tie.Need-next-fault-requires-2
+next-fault-requires-2 c κs = search needs
+
+or-else-requires-4 : tie.Need-or-else-requires-4
+or-else-requires-4 c κs = search needs
+
+refuse-unless-requires-4 : tie.Need-refuse-unless-requires-4
+refuse-unless-requires-4 c κs = search needs
+
+or-else-requires-5 : tie.Need-or-else-requires-5
+or-else-requires-5 c κs = search needs
+
+refuse-unless-requires-5 : tie.Need-refuse-unless-requires-5
+refuse-unless-requires-5 c κs = search needs
+
+or-else-requires-6 : tie.Need-or-else-requires-6
+or-else-requires-6 c κs = search needs
+
+refuse-unless-requires-6 : tie.Need-refuse-unless-requires-6
+refuse-unless-requires-6 c κs = search needs
+
+or-else-requires-7 : tie.Need-or-else-requires-7
+or-else-requires-7 c κs = search needs
+
+next-fault-requires-3 : tie.Need-next-fault-requires-3
+next-fault-requires-3 c κs = search needs
+
+or-else-requires-8 : tie.Need-or-else-requires-8
+or-else-requires-8 c κs = search needs
+
+refuse-unless-requires-7 : tie.Need-refuse-unless-requires-7
+refuse-unless-requires-7 c κs = search needs
+
+or-else-requires-9 : tie.Need-or-else-requires-9
+or-else-requires-9 c κs = search needs
+
+refuse-unless-requires-8 : tie.Need-refuse-unless-requires-8
+refuse-unless-requires-8 c κs = search needs
+
+or-else-requires-10 : tie.Need-or-else-requires-10
+or-else-requires-10 c κs = search needs
+
+returns : tie.Need-returns
+unfolding cellFault outputsInRange maskInRange channelInRange levelInRange levelAllowed
+returns c =
+    let mask = c .before .before .before in
+    let fault = mask .before .before .before in
+    let channel = fault .before .before .before in
+    let level = channel .before .before .before in
+    let allowed = level .before .before .before in
+    let sequence = allowed .before .before .before .before in
+    let timeout = sequence .before .before .before in
+    let timeoutto = timeout .before .before .before in
+    let step = timeoutto .before .before .before in
+    let cell = step .before .before .before .before .args .cell in
+    let agrees = allowed .before .before .if1 .allowed ≡ levelAllowed (cell .channel) (cell .level) in
+    let flag : agrees =
+    ⊎-elim {C = agrees}
+    (λ w. or-left _ (ap not (ne-eqb _ _ (w .0 .taken))) (w .1))
+    (λ w. or-right (ap not (eq-eqb _ _ (w .0 .left))) (w .2))
+    (allowed .before .before .if1 .came) in
+    first-tested _ (c .or-else10 .ensures) (c .before .refuse-unless8 .ensures)
+    (first-tested _ (mask .or-else9 .ensures) (mask .before .refuse-unless7 .ensures)
+    (first-tested _ (fault .or-else8 .ensures) (fault .before .next-fault3 .ensures)
+    (first-tested _ (channel .or-else7 .ensures) (channel .before .refuse-unless6 .ensures)
+    (first-tested _ (level .or-else6 .ensures) (level .before .refuse-unless5 .ensures)
+    (first-tested _ (allowed .or-else5 .ensures) (allowed .before .refuse-unless4 .ensures ∙ ap (λ (holds : Bool). refusedUnless holds 15 6) flag)
+    (first-tested _ (sequence .or-else4 .ensures) (sequence .before .next-fault2 .ensures)
+    (first-tested _ (timeout .or-else3 .ensures) (timeout .before .refuse-unless3 .ensures)
+    (first-tested _ (timeoutto .or-else2 .ensures) (timeoutto .before .next-fault .ensures)
+    (first-tested _ (step .or-else .ensures) (step .before .refuse-unless2 .ensures)
+    (first-none (step .before .before .before .refuse-unless .ensures)))))))))))
+
+pub cell-fault-spec : {M : Type 1} → statement M
+cell-fault-spec =
+    tie.close
+    (tie.spec
+    refuse-unless-requires
+    refuse-unless-requires-2
+    or-else-requires
+    next-fault-requires
+    or-else-requires-2
+    refuse-unless-requires-3
+    or-else-requires-3
+    next-fault-requires-2
+    or-else-requires-4
+    refuse-unless-requires-4
+    or-else-requires-5
+    refuse-unless-requires-5
+    or-else-requires-6
+    refuse-unless-requires-6
+    or-else-requires-7
+    next-fault-requires-3
+    or-else-requires-8
+    refuse-unless-requires-7
+    or-else-requires-9
+    refuse-unless-requires-8
+    or-else-requires-10
+    returns)

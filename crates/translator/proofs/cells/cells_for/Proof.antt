@@ -1,0 +1,23 @@
+-- `translator::cells::cells_for` meets its contract: rounding up is rounding down from one less, and one more. Assumes nothing.
+use native.Mathlib.Omega.{arith}
+use borrow.Author.Needs.{needs}
+use Rattle.translator.specs.Translation.{cellsFor}
+use Rattle.translator.proofs.cells.cells_for.Statement.{statement}
+use Rattle.translator.proofs.cells.cells_for.Tie as tie
+
+returns : tie.Need-returns
+unfolding cellsFor
+returns c = omega arith
+
+sub-result : tie.Need-sub-result
+sub-result c = search needs
+
+add-result : tie.Need-add-result
+add-result c = search needs
+
+returns-2 : tie.Need-returns-2
+unfolding cellsFor
+returns-2 c = omega arith
+
+pub cells-for-spec : {M : Type 1} → statement M
+cells-for-spec = tie.close (tie.spec returns sub-result add-result returns-2)

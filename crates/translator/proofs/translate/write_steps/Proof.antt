@@ -1,0 +1,93 @@
+-- `translator::translate::write_steps` meets its contract. The invariant: the cells of the first i steps are written, and the bytes after them stay.
+-- Assumes nothing.
+use Prim.Native.Nat.{_-_, _≤_, _<_}
+use mathlib.Core.Path.{_≡_, ap, _∙_}
+use native.Mathlib.Omega.{arith}
+use denote.Ref.{now}
+use borrow.Author.Needs.{needs}
+use Rattle.sheets.specs.Sheets.{stepCount}
+use Rattle.sheets.specs.declared.step.Step.{Step}
+use Rattle.sheets.proofs.SearchLaws.{few-steps}
+use Rattle.translator.specs.Translation.{cellsFor, cellsOf}
+use Rattle.translator.proofs.CutFits.{step-within}
+use Rattle.translator.proofs.WriteLaws.{StepsWritten, steps-none, steps-more, steps-all}
+use Rattle.translator.proofs.translate.write_steps.Statement.{statement}
+use Rattle.translator.proofs.translate.write_steps.Tie as tie
+
+abbrev Inv-loop : tie.InvT-loop
+Inv-loop sheet table₀ steps first₀ i₀ table first i = StepsWritten sheet table₀ i first table × (steps ≡ stepCount sheet) × (i ≤ steps)
+
+abbrev μ-loop : tie.MeasureT-loop
+μ-loop sheet table₀ steps first₀ i₀ table first i = steps - i
+
+step-count-requires : tie.Need-step-count-requires Inv-loop μ-loop
+step-count-requires c κs = search needs
+
+loop-holds : tie.Need-loop-holds Inv-loop μ-loop
+loop-holds c = (steps-none _ _, c .step-count .ensures, omega arith)
+
+step-at-requires : tie.Need-step-at-requires Inv-loop μ-loop
+step-at-requires c κs = search needs
+
+cells-for-requires : tie.Need-cells-for-requires Inv-loop μ-loop
+cells-for-requires c κs = search needs
+
+-- how many cells the step takes
+cells-of : (c : tie.After-cells-for Inv-loop μ-loop)
+    → c .cells-for .result ≡ cellsOf (now (c .before .before .before .before .before .before .before .args .sheet)) (c .before .before .before .loop .i)
+cells-of c = c .cells-for .ensures .0 ∙ ap (λ (s : Step). cellsFor (s .timeout)) (c .before .step-at .ensures)
+
+write-step-requires : tie.Need-write-step-requires Inv-loop μ-loop
+write-step-requires c κs =
+    let s = c .before .before .before .before .before .before .before .before in
+    let so = c .before .before .before .before .loop .inv in
+    (s .pre .0, (s .pre .1 .0, (omega (arith, s .pre .1 .1, so .0 .size), (omega arith, (so .0 .counted, cells-of (c .before))))))
+
+add-first : tie.Need-add-first Inv-loop μ-loop
+add-first c =
+    let cells = c .before .before .before .before in
+    let turn = cells .before .before .before in
+    let s = turn .before .before .before .before in
+    let here : turn .loop .i < stepCount (now (s .args .sheet)) = omega arith in
+    omega (arith, turn .loop .inv .0 .counted, cells-of cells, step-within (now (s .args .sheet)) (turn .loop .i) here, s .pre)
+
+add-i : tie.Need-add-i Inv-loop μ-loop
+add-i c =
+    let turn = c .before .before .before .before .before .before .before in
+    omega (arith, turn .loop .inv, few-steps (now (turn .before .before .before .before .args .sheet)))
+
+loop-less : tie.Need-loop-less Inv-loop μ-loop
+loop-less c = omega arith
+
+loop-again : tie.Need-loop-again Inv-loop μ-loop
+loop-again c =
+    let cells = c .before .before .before .before in
+    let so = cells .before .before .before .loop .inv in
+    (steps-more _ _ _ _ _ _ (so .0) _ (cells-of cells) (c .before .before .write-step .ensures) (c .before .before .write-step .kept .1 .1 .1 .1 .0), so .1, omega arith)
+
+same-length : tie.Need-same-length Inv-loop μ-loop
+same-length c = c .before .loop .inv .0 .size
+
+returns : tie.Need-returns Inv-loop μ-loop
+returns c =
+    let so = c .before .loop .inv in
+    let all : c .before .loop .i ≡ stepCount (now (c .before .before .before .before .before .args .sheet)) = omega arith in
+    steps-all _ _ _ _ _ (so .0) all
+
+pub write-steps-spec : {M : Type 1} → statement M
+write-steps-spec =
+    tie.close
+    (tie.spec
+    Inv-loop
+    μ-loop
+    step-count-requires
+    loop-holds
+    step-at-requires
+    cells-for-requires
+    write-step-requires
+    add-first
+    add-i
+    loop-less
+    loop-again
+    same-length
+    returns)

@@ -1,0 +1,100 @@
+// Every test first; then the cells, each into the part lent for it.
+use crate::cells::cells_for;
+use crate::cells::first_cell;
+use crate::cut::cut_at;
+use records::NO_ROOM;
+use records::TOO_MANY_CELLS;
+use records::Verdict;
+use records::refuse_unless;
+use sheets::sheet_verdict;
+use sheets::step_at;
+use sheets::step_count;
+use tables::write_cell;
+ghost use Prim.Native.Nat.{_≤_, _<_, _*_, _+_};
+ghost use mathlib.Core.Path.{_≡_};
+ghost use mathlib.Core.List.{_++_};
+ghost use lib.ListN.{length, take, drop};
+ghost use Rattle.records.specs.Lists.{each, pieces};
+ghost use Rattle.sheets.specs.Sheets.{sheetVerdict, stepCount};
+ghost use Rattle.translator.specs.Translation.{translationVerdict, translation, translated, tableOf, cellTotal, firstCell, cellsOf, stepBytes};
+
+// How many cells were written, with number 0; or the refusal, with no cell.
+pub struct Translation {
+    pub number: u8,
+    pub place: usize,
+    pub cells: u8,
+}
+
+// Translates a sheet into the lent table. Bytes beyond the cells stay; a refusal leaves every byte.
+pub fn translate_sheet(sheet: &[u8], table: &mut [u8]) -> Translation
+    ensures { λ r. ⌜ r ≡ translation (now (sheet .entry)) (now (table .entry)) ⌝ }
+    ensures { λ _. ⌜ now (table .exit) ≡ translated (now (sheet .entry)) (now (table .entry)) ⌝ }
+{
+    let verdict = translation_verdict(sheet, table.len());
+    if verdict.number != 0 {
+        return Translation {
+            number: verdict.number,
+            place: verdict.place,
+            cells: 0,
+        };
+    }
+    write_steps(sheet, table);
+    let cells = first_cell(sheet, step_count(sheet)) as u8;
+    Translation {
+        number: verdict.number,
+        place: verdict.place,
+        cells,
+    }
+}
+
+// The sheet's tests, then cells, then room.
+fn translation_verdict(sheet: &[u8], room: usize) -> Verdict
+    ensures { λ r. ⌜ r ≡ translationVerdict (now (sheet .entry)) room ⌝ }
+{
+    let refusal = sheet_verdict(sheet);
+    if refusal.number != 0 {
+        return refusal;
+    }
+    let cells = first_cell(sheet, step_count(sheet)) as usize;
+    let bytes = 12 * cells;
+    if cells > 63 {
+        return refuse_unless(false, TOO_MANY_CELLS, 0);
+    }
+    refuse_unless(bytes <= room, NO_ROOM, 0)
+}
+
+fn write_steps(sheet: &[u8], table: &mut [u8])
+    requires { ⌜ sheetVerdict (now sheet) .number ≡ 0 ⌝ }
+    requires { ⌜ cellTotal (now sheet) ≤ 63 ⌝ }
+    requires { ⌜ 12 * cellTotal (now sheet) ≤ length (now table) ⌝ }
+    ensures { λ _. ⌜ now (table .exit) ≡ tableOf (now (sheet .entry)) ++ drop (12 * cellTotal (now (sheet .entry))) (now (table .entry)) ⌝ }
+{
+    let steps = step_count(sheet);
+    let mut first = 0;
+    let mut i = 0;
+    while i < steps {
+        let step = step_at(sheet, i);
+        let cells = cells_for(step.timeout);
+        write_step(sheet, i, first, cells, table);
+        first += cells;
+        i += 1;
+    }
+}
+
+// The cells of step i, from cell `first` on.
+fn write_step(sheet: &[u8], i: u8, first: u16, cells: u16, table: &mut [u8])
+    requires { ⌜ sheetVerdict (now sheet) .number ≡ 0 ⌝ }
+    requires { ⌜ cellTotal (now sheet) ≤ 63 ⌝ }
+    requires { ⌜ 12 * cellTotal (now sheet) ≤ length (now table) ⌝ }
+    requires { ⌜ i < stepCount (now sheet) ⌝ }
+    requires { ⌜ first ≡ firstCell (now sheet) i ⌝ }
+    requires { ⌜ cells ≡ cellsOf (now sheet) i ⌝ }
+    ensures { λ _. ⌜ now (table .exit) ≡ take (12 * first) (now (table .entry)) ++ (stepBytes (now (sheet .entry)) i ++ drop (12 * (first + cells)) (now (table .entry))) ⌝ }
+{
+    let mut j = 0;
+    while j < cells {
+        let at = 12 * ((first + j) as usize);
+        write_cell(cut_at(sheet, i, j), &mut table[at..at + 12]);
+        j += 1;
+    }
+}
