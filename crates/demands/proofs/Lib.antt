@@ -1,2 +1,3 @@
 pub mod Point2
+pub mod Point3
 pub mod OneAnswer

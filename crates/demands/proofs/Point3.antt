@@ -1,0 +1,134 @@
+-- The third point: a sheet is translated by the paper's rule unless the paper names the reason, and the table runs as the sheet runs.
+-- `translation` is what `translator::translate_sheet` answers and `translated` what it leaves in the buffer; `sheetRun` and `tableRun` are what the
+-- engine's calls answer at the start and after every tick. Assumes nothing.
+use Prim.Native.Nat.{ℕ, _+_, _*_, _/_, _≤_, _<_, max}
+use mathlib.Core.Path.{_≡_}
+use mathlib.Core.List.{List}
+use mathlib.Core.Bool.{true, false}
+use mathlib.Core.Logic.{_↔_}
+use lib.ListN.{length, take, drop}
+use Rattle.records.specs.Lists.{each}
+use Rattle.records.specs.Verdicts.{accepted}
+use Rattle.records.specs.Tags.{tagAt, repeats, lookUp}
+use Rattle.records.specs.declared.verdict.Verdict.{Verdict}
+use Rattle.records.proofs.Every.{Every}
+use Rattle.records.proofs.TagLaws as tag-laws
+use Rattle.machine.specs.declared.state.State.{State}
+use Rattle.tables.specs.Tables.{cellAt, tableVerdict}
+use Rattle.sheets.specs.Sheets.{stepAt, stepCount, sheetVerdict}
+use Rattle.sheets.proofs.AcceptedSheet.{AcceptedSheet}
+use Rattle.sheets.proofs.AcceptedSheet as sheets
+use Rattle.engine.specs.Engine.{tableStateVerdict, tableTicked, sheetStateVerdict, sheetTicked}
+use Rattle.engine.specs.Runs.{sheetRun, tableRun}
+use Rattle.translator.specs.Translation.{cellsOf, firstCell, cellTotal, cutAt, tableOf, translation, translated}
+use Rattle.translator.proofs.CellCounts.{sum}
+use Rattle.translator.proofs.CellCounts as counts
+use Rattle.translation_laws.proofs.AcceptedTable.{AcceptedTable}
+use Rattle.translation_laws.proofs.AcceptedTable as tables
+use Rattle.translation_laws.proofs.RefusedSheet as refused-sheets
+use Rattle.translation_laws.proofs.RefusedTable as refused-tables
+use Rattle.translation_laws.proofs.TranslationLaws.{Refused}
+use Rattle.translation_laws.proofs.TranslationLaws as translations
+use Rattle.translation_laws.proofs.TranslatedTable as translated-tables
+use Rattle.translation_laws.proofs.StateKept as state-kept
+use Rattle.translation_laws.proofs.ThirdPoint.{SameRun}
+use Rattle.translation_laws.proofs.ThirdPoint as third
+
+-- ---- the third point
+
+-- For every accepted sheet, every buffer and every list of words below 1024, the empty list too: the sheet's run and the run of the table that stands in the
+-- lent buffer show the same outputs and the same step at the start and after every tick, and no tick of either is refused.
+pub third-point : (sheet buffer words : List ℕ) → translation sheet buffer .number ≡ 0 → Every (λ word. word < 1024) words
+    → SameRun (sheetRun sheet words) (tableRun (take (12 * translation sheet buffer .cells) (translated sheet buffer)) words)
+third-point = third.third-point
+
+-- Both runs have an answer for the start and one for each word.
+pub sheet-run-length : (sheet words : List ℕ) → length (sheetRun sheet words) ≡ 1 + length words
+sheet-run-length = third.sheet-length
+
+pub table-run-length : (table words : List ℕ) → length (tableRun table words) ≡ 1 + length words
+table-run-length = third.table-length
+
+-- ---- unless the paper names the reason
+
+-- A sheet is translated exactly when it passes the sheet's tests, takes at most 63 cells and has twelve bytes of room for each.
+pub translated-exactly : (sheet buffer : List ℕ)
+    → (translation sheet buffer .number ≡ 0) ↔ (AcceptedSheet sheet × (cellTotal sheet ≤ 63) × (12 * cellTotal sheet ≤ length buffer))
+translated-exactly = translations.translation-accepted
+
+-- Every refusal is one of the paper's, by the first test that fails, with no cell and no byte written; and each such reason is a refusal.
+pub refused-by : (sheet buffer : List ℕ) {v : Verdict} → Refused sheet (length buffer) v
+    → translation sheet buffer ≡ record { number = v .number; place = v .place; cells = 0 }
+refused-by = translations.refused-answer
+
+pub refused-writes-nothing : (sheet buffer : List ℕ) → ¬ (translation sheet buffer .number ≡ 0) → translated sheet buffer ≡ buffer
+refused-writes-nothing = translations.refused-bytes
+
+-- The sheet's verdict accepts exactly the sheets that the paper's rules allow.
+pub sheet-accepted : (sheet : List ℕ) → (sheetVerdict sheet .number ≡ 0) ↔ AcceptedSheet sheet
+sheet-accepted = sheets.sheet-accepted
+
+-- It refuses by the first test that fails, at the lowest step.
+pub sheet-refused : (sheet : List ℕ) {v : Verdict} → refused-sheets.Refused sheet v → sheetVerdict sheet ≡ v
+sheet-refused = refused-sheets.refused-shows
+
+pub sheet-refusals : (sheet : List ℕ) → ¬ (sheetVerdict sheet .number ≡ 0) → refused-sheets.Refused sheet (sheetVerdict sheet)
+sheet-refusals = refused-sheets.shows-refused
+
+-- ---- the table
+
+-- The number of cells is the sum of the rounded-up quotients, each at least one.
+pub cell-count : (sheet : List ℕ) → cellTotal sheet ≡ sum (each (λ i. max 1 ((stepAt sheet i .timeout + 3999) / 4000)) 0 (stepCount sheet))
+cell-count = counts.total-sum
+
+-- Cell j of step i stands j past the step's first cell, and is the cut that the paper describes.
+pub cells-stand : (sheet buffer : List ℕ) → translation sheet buffer .number ≡ 0 → (i j : ℕ) → i < stepCount sheet → j < cellsOf sheet i
+    → cellAt (take (12 * translation sheet buffer .cells) (translated sheet buffer)) (firstCell sheet i + j) ≡ cutAt sheet i j
+cells-stand = translations.written-cell
+
+-- Bytes beyond the cells stay, and the buffer keeps its length.
+pub bytes-beyond : (sheet buffer : List ℕ) → drop (12 * translation sheet buffer .cells) (translated sheet buffer) ≡ drop (12 * translation sheet buffer .cells) buffer
+bytes-beyond = translations.bytes-beyond
+
+pub bytes-length : (sheet buffer : List ℕ) → length (translated sheet buffer) ≡ length buffer
+bytes-length = translations.bytes-length
+
+-- A translated table passes the whole-table verdict.
+pub translated-passes : (sheet : List ℕ) → sheetVerdict sheet .number ≡ 0 → cellTotal sheet ≤ 63 → tableVerdict (tableOf sheet) ≡ accepted
+translated-passes = translated-tables.translated-passes
+
+-- The whole-table verdict accepts exactly the tables that the paper's rules allow, and refuses by the first test that fails, at the lowest cell.
+pub table-accepted : (table : List ℕ) → (tableVerdict table .number ≡ 0) ↔ AcceptedTable table
+table-accepted = tables.table-accepted
+
+pub table-refused : (table : List ℕ) {v : Verdict} → refused-tables.Refused table v → tableVerdict table ≡ v
+table-refused = refused-tables.refused-shows
+
+-- A table that passes it refuses no tick from an accepted state with a word below 1024, and the state is accepted again.
+pub table-ticks : (table : List ℕ) → tableVerdict table .number ≡ 0 → (state : State) (word : ℕ) → tableStateVerdict table state .number ≡ 0 → word < 1024
+    → (tableTicked table state word .number ≡ 0) × (tableStateVerdict table (tableTicked table state word .state) ≡ accepted)
+table-ticks = state-kept.table-ticks
+
+-- So does an accepted sheet.
+pub sheet-ticks : (sheet : List ℕ) (state : State) (word : ℕ) → sheetStateVerdict sheet state .number ≡ 0 → word < 1024
+    → (sheetTicked sheet state word .number ≡ 0) × (sheetStateVerdict sheet (sheetTicked sheet state word .state) ≡ accepted)
+sheet-ticks = state-kept.sheet-ticks
+
+-- ---- tags, for records of any width
+
+-- A record repeats a tag exactly when an earlier one has it.
+pub repeats-earlier : (w : ℕ) (bytes : List ℕ) (j : ℕ) → repeats w bytes j ≡ true
+    → (i : ℕ) × (i < j) × (tagAt w bytes i ≡ tagAt w bytes j)
+repeats-earlier = tag-laws.repeats-some
+
+-- Look-up finds a record with the tag, and none before it has it.
+pub look-up-has : (w : ℕ) (bytes : List ℕ) (n tag : ℕ) → lookUp w bytes n tag < n → tagAt w bytes (lookUp w bytes n tag) ≡ tag
+look-up-has = tag-laws.lookUp-has
+
+pub look-up-lowest : (w : ℕ) (bytes : List ℕ) (n tag k : ℕ) → k < lookUp w bytes n tag → ¬ (tagAt w bytes k ≡ tag)
+look-up-lowest = tag-laws.lookUp-first
+
+-- Without repeats, look-up is the inverse of tag-at.
+pub look-up-inverse : (w : ℕ) (bytes : List ℕ) (n : ℕ) → ((j : ℕ) → j < n → repeats w bytes j ≡ false)
+    → (k : ℕ) → k < n → lookUp w bytes n (tagAt w bytes k) ≡ k
+look-up-inverse = tag-laws.lookUp-tagAt
