@@ -1,0 +1,100 @@
+// Prints the settings that one configuration image on standard input means, a line for each group.
+//
+//   NAME over T H under T H delay D faults TYPE input KIND logic INVERT EDGE PULSE DELAY
+//     output SOURCE PULL normal BYTES
+//
+// all in one line, with times in µs and the group's normal bytes in hexadecimal. What the library
+// refuses prints `refused NUMBER PLACE`.
+mod input;
+mod names;
+
+use image::Group;
+use image::Logic;
+use image::Output;
+use image::Settings;
+use image::Threshold;
+use libc::STDOUT_FILENO;
+use text::Line;
+
+fn main() {
+    // One byte more than an image, so that a longer input is refused and not cut.
+    let mut buffer = [0u8; 81];
+    let count = input::receive(&mut buffer);
+    let reading = image::read(&buffer[..count]);
+    if reading.number != 0 {
+        print(refusal(reading.number, reading.place));
+        return;
+    }
+    let settings = reading.settings;
+    print_groups(settings);
+}
+
+fn print(line: Line) {
+    let bytes = line.bytes;
+    let count = line.count();
+    io::write_all(STDOUT_FILENO, &bytes[..count]);
+}
+
+fn refusal(number: u8, place: usize) -> Line {
+    text::empty()
+        .word(b"refused")
+        .item(number as u64)
+        .item(place as u64)
+        .word(b"\n")
+}
+
+fn print_groups(settings: Settings) {
+    // Settings that were read are never refused by the writer.
+    let mut normal = [0u8; 80];
+    image::write(settings, &mut normal);
+    let groups = settings.groups;
+    let mut k = 0;
+    while k < 10 {
+        print(group_line(k, groups[k], &normal[8 * k..8 * k + 8]));
+        k += 1;
+    }
+}
+
+fn group_line(k: usize, group: Group, normal: &[u8]) -> Line {
+    let logic = group.logic;
+    let output = group.output;
+    let mut line = names::channel(text::empty(), k);
+    line = fault_items(line, group).word(b" logic");
+    line = logic_items(line, logic).word(b" output ");
+    line = output_names(line, output).word(b" normal ");
+    line.bytes(normal).word(b"\n")
+}
+
+fn fault_items(line: Line, group: Group) -> Line {
+    let over = group.over;
+    let under = group.under;
+    let faults = group.faults;
+    let input = group.input;
+    let mut all = threshold_items(line.word(b" over"), over);
+    all = threshold_items(all.word(b" under"), under);
+    all = all.word(b" delay").item(group.delay as u64);
+    all = names::fault_type(all.word(b" faults "), faults);
+    names::input(all.word(b" input "), input)
+}
+
+fn threshold_items(line: Line, threshold: Threshold) -> Line {
+    line.item(threshold.level as u64)
+        .item(threshold.hysteresis as u64)
+}
+
+fn logic_items(line: Line, logic: Logic) -> Line {
+    line.item(flag(logic.invert))
+        .item(flag(logic.edge))
+        .item(logic.pulse as u64)
+        .item(logic.delay as u64)
+}
+
+fn flag(on: bool) -> u64 {
+    if on { 1 } else { 0 }
+}
+
+fn output_names(line: Line, output: Output) -> Line {
+    let source = output.source;
+    let pull = output.pull;
+    names::pull(names::source(line, source).word(b" "), pull)
+}

@@ -1,0 +1,28 @@
+-- `text::Line::item` meets its contract: a text after a text is the two joined. Assumes nothing.
+use mathlib.Core.Path.{ap, _∙_}
+use mathlib.Core.List.{[], _∷_}
+use borrow.Author.Needs.{needs}
+use Rattle.text.specs.Text.{appended, decimalText}
+use Rattle.text.specs.declared.Line.{Line}
+use Rattle.text.proofs.TextLaws.{appended-twice}
+use Rattle.text.proofs.Line.item.Statement.{statement}
+use Rattle.text.proofs.Line.item.Tie as tie
+
+slice-aggregate-word : tie.Need-slice-aggregate-word
+slice-aggregate-word c = search needs
+
+word-requires : tie.Need-word-requires
+word-requires c κs = search needs
+
+decimal-requires : tie.Need-decimal-requires
+decimal-requires c κs = search needs
+
+returns : tie.Need-returns
+returns c =
+    let a = c .before .before .before .args in
+    c .decimal .ensures
+    ∙ ap (λ (line : Line). appended line (decimalText (a .number))) (c .before .word .ensures)
+    ∙ appended-twice (a .self) (32 ∷ []) (decimalText (a .number))
+
+pub item-spec : {M : Type 1} → statement M
+item-spec = tie.close (tie.spec slice-aggregate-word word-requires decimal-requires returns)
