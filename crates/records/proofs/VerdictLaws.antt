@@ -23,6 +23,12 @@ pub unless-accepted : (holds : Bool) (number place : ℕ) → (number ≡ 0 → 
 unless-accepted true number place h e = refl
 unless-accepted false number place h e = absurd (h e)
 
+-- a test that refuses is its refusal
+pub unless-refused : (holds : Bool) (number place : ℕ) → (refusedUnless holds number place .number ≡ 0 → ⊥)
+    → refusedUnless holds number place ≡ record { number = number; place = place }
+unless-refused true number place h = absurd (h refl)
+unless-refused false number place h = refl
+
 -- ---- two tests
 pub orElse-pass : (v w : Verdict) → v .number ≡ 0 → orElse v w ≡ w
 unfolding orElse

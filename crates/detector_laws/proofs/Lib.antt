@@ -1,0 +1,10 @@
+pub mod AcceptedSettings
+pub mod ChannelRange
+pub mod BankRange
+pub mod Release
+pub mod StateKept
+pub mod ChannelRule
+pub mod EngineRule
+pub mod Starred
+pub mod Refusals
+pub mod Calls

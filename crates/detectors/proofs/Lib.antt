@@ -1,0 +1,3 @@
+pub mod ChannelLaws
+pub mod BankLaws
+pub mod TickLaws

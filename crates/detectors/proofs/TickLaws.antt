@@ -1,0 +1,177 @@
+-- Laws of ticks over a run of frames. Assumes nothing.
+use Prim.Native.Nat.{ℕ, zero, suc, _+_, _-_, _*_, _≤_, _<_}
+use mathlib.Core.Path.{_≡_, refl, ap, ap₂, sym, _∙_}
+use mathlib.Core.Bool.{Bool}
+use mathlib.Core.List.{List, _++_}
+use native.Mathlib.Decide.{ℕ-discrete}
+use native.Mathlib.Nat.{zero-add, not-suc-le-zero}
+use native.Mathlib.Numerals.{add-one}
+use native.Mathlib.Omega.{arith}
+use borrow.Author.Tests.{eq-eqb, ne-eqb}
+use lib.Dec.{ltb}
+use lib.ListN.{length, getD, take, drop}
+use lib.Seq.{getD-take, getD-drop}
+use Rattle.records.specs.Lists.{each}
+use Rattle.records.specs.Numbers.{wrong-length, bad-word}
+use Rattle.records.specs.Verdicts.{accepted, refusedUnless, orElse, firstRefusal}
+use Rattle.records.specs.declared.verdict.Verdict.{Verdict}
+use Rattle.records.specs.Words.{wordOf}
+use Rattle.records.proofs.ListLaws.{getD-default, each-at, each-length, each-ext, fill-all}
+use Rattle.records.proofs.VerdictLaws.{orElse-pass, orElse-end, first-accepted}
+use Rattle.records.proofs.WordLaws.{wordOf-ext}
+use Rattle.image.specs.Reading.{groupAt, zeroGroup}
+use Rattle.image.specs.Writing.{settingsVerdict}
+use Rattle.image.specs.declared.settings.Group.{Group}
+use Rattle.image.specs.declared.settings.Settings.{Settings}
+use Rattle.detectors.specs.Channel.{channelAfter, faultBit, warningBit, startChannel}
+use Rattle.detectors.specs.Bank.{sampleAt, channelAt, nextChannel, bankAfter, faultsOf, warningsOf, bankVerdict}
+use Rattle.detectors.specs.Tick.{frameAt, bankAt, wordsAt, trace, levelsInRange, noWords, wordsOver, advancedOver, levelsVerdict, framesVerdict, detected, detectedOver}
+use Rattle.detectors.specs.Run.{channelOver, ranOver}
+use Rattle.detectors.specs.declared.bank.Bank.{Bank}
+use Rattle.detectors.specs.declared.bank.Advanced.{Advanced}
+use Rattle.detectors.specs.declared.ticks.Detected.{Detected}
+use Rattle.detectors.specs.declared.channel.Channel.{Channel}
+use Rattle.detectors.specs.declared.channel.Ran.{Ran}
+use Rattle.detectors.specs.declared.channel.Sample.{Sample}
+use Rattle.detectors.proofs.BankLaws.{fill-here}
+
+-- ---- a frame
+-- the part that is lent for frame i
+pub frame-part : (frames : List ℕ) (i : ℕ) → take (11 * i + 11 - 11 * i) (drop (11 * i) frames) ≡ frameAt frames i
+unfolding frameAt
+frame-part frames i =
+    let eleven : 11 * i + 11 - 11 * i ≡ 11 = omega arith in
+    ap (λ (m : ℕ). take m (drop (11 * i) frames)) eleven
+
+-- the test of its level byte, and the same as the code makes it
+abbrev pub levelsTest : List ℕ → ℕ → Verdict
+levelsTest frames i = refusedUnless (levelsInRange frames i) bad-word 0
+
+pub levels-test : (frames : List ℕ) (i : ℕ) (v : Verdict) → v ≡ refusedUnless (ltb (getD frames (11 * i + 10) 0) 32) bad-word 0 → v ≡ levelsTest frames i
+unfolding levelsInRange frameAt
+levels-test frames i v is =
+    is
+    ∙ ap (λ (levels : ℕ). refusedUnless (ltb levels 32) bad-word 0)
+    (sym (getD-take 11 (drop (11 * i) frames) 10 0 (omega arith) ∙ getD-drop (11 * i) frames 10 0))
+
+-- ---- one channel by itself
+module _ (group : Group) (frames : List ℕ) (k : ℕ) (channel : Channel) where
+  -- one frame more, as a loop takes it
+  pub over-more : (i : ℕ) (sample : Sample) (before after : Channel)
+      → sample ≡ sampleAt (group .input) (take (11 * i + 11 - 11 * i) (drop (11 * i) frames)) k
+      → before ≡ channelOver group frames k channel i
+      → after ≡ channelAfter group sample before
+      → after ≡ channelOver group frames k channel (i + 1)
+  unfolding channelOver
+  over-more i sample before after pins reached step =
+      step
+      ∙ ap₂ (channelAfter group) (pins ∙ ap (λ (frame : List ℕ). sampleAt (group .input) frame k) (frame-part frames i)) reached
+      ∙ ap (channelOver group frames k channel) (sym (add-one i))
+
+-- ---- the bank: each channel goes by itself
+module _ (settings : Settings) (frames : List ℕ) (bank : Bank) where
+  -- channel k after n frames by itself
+  abbrev pub alone : ℕ → ℕ → Channel
+  alone k n = channelOver (groupAt settings k) frames k (channelAt bank k) n
+
+  pub bank-alone : (k n : ℕ) → k < 10 → channelAt (bankAt settings frames bank n) k ≡ alone k n
+  unfolding bankAt bankAfter channelOver
+  bank-alone k zero h = refl
+  bank-alone k (suc n) h =
+      each-at (nextChannel settings (frameAt frames n) (bankAt settings frames bank n)) 0 10 k startChannel h
+      ∙ ap (nextChannel settings (frameAt frames n) (bankAt settings frames bank n)) (zero-add k)
+      ∙ ap (channelAfter (groupAt settings k) (sampleAt (groupAt settings k .input) (frameAt frames n) k)) (bank-alone k n h)
+
+  -- the bank after n frames, 1 or more
+  pub bank-of-alone : (n : ℕ) → 1 ≤ n → bankAt settings frames bank n ≡ record { channels = each (λ k. alone k n) 0 10 }
+  unfolding bankAt bankAfter channelOver
+  bank-of-alone zero h = absurd (not-suc-le-zero h)
+  bank-of-alone (suc n) h =
+      ap (λ (l : List Channel). record { channels = l })
+      (each-ext (nextChannel settings (frameAt frames n) (bankAt settings frames bank n)) (λ k. alone k (suc n)) 0 10
+      (λ j p. ap (channelAfter (groupAt settings (0 + j)) (sampleAt (groupAt settings (0 + j) .input) (frameAt frames n) (0 + j))) (bank-alone (0 + j) n (omega arith))))
+
+  -- the words over n frames are those of the last
+  pub words-last : (n : ℕ) → 1 ≤ n → wordsOver (trace settings frames bank n) ≡ wordsAt settings frames bank (n - 1)
+  unfolding wordsOver trace
+  words-last n h =
+      ap (λ (m : ℕ). getD (each (wordsAt settings frames bank) 0 n) (m - 1) noWords) (each-length (wordsAt settings frames bank) 0 n)
+      ∙ each-at (wordsAt settings frames bank) 0 n (n - 1) noWords (omega arith)
+      ∙ ap (wordsAt settings frames bank) (zero-add (n - 1))
+
+  -- a word of one bit for each channel
+  pub word-alone : (bit : Group → Channel → Channel → Bool) (n : ℕ) → 1 ≤ n
+      → wordOf (λ k. bit (groupAt settings k) (channelAt (bankAt settings frames bank (n - 1)) k) (channelAt (bankAt settings frames bank (suc (n - 1))) k)) 10
+      ≡ wordOf (λ k. bit (groupAt settings k) (alone k (n - 1)) (alone k n)) 10
+  word-alone bit n h =
+      let last : suc (n - 1) ≡ n = omega arith in
+      wordOf-ext _ (λ k. bit (groupAt settings k) (alone k (n - 1)) (alone k n)) 10
+      (λ k p. ap₂ (bit (groupAt settings k)) (bank-alone k (n - 1) p) (bank-alone k (suc (n - 1)) p ∙ ap (alone k) last))
+
+  -- every channel's run by itself gives the bank and the words
+  abbrev pub ranAt : ℕ → ℕ → Ran
+  ranAt n k = ranOver (groupAt settings k) frames k (channelAt bank k) n
+
+  pub ran-all : (n k : ℕ) (after : Bank) (faults warnings : ℕ)
+      → 1 ≤ n
+      → k ≡ 10
+      → length (bank .channels) ≡ 10
+      → after .channels ≡ each (λ j. ranAt n j .channel) 0 k ++ drop k (bank .channels)
+      → faults ≡ wordOf (λ j. ranAt n j .fault) k
+      → warnings ≡ wordOf (λ j. ranAt n j .warning) k
+      → _≡_ {A = Advanced} (record { bank = after; faults = faults; warnings = warnings }) (advancedOver n settings bank frames)
+  unfolding advancedOver ranOver wordsAt faultsOf warningsOf
+  ran-all n k after faults warnings h all ten channels fault warning =
+      rw (words-last n h, word-alone faultBit n h, word-alone warningBit n h, bank-of-alone n h, channels, fault, warning, all, fill-all (λ j. alone j n) (bank .channels) 10 ten)
+
+  -- channel k, as the code reads it where the channels before it have run
+  pub ran-here : (n k : ℕ) (now : List Channel) (d : Group) (e : Channel)
+      → length (settings .groups) ≡ 10
+      → length (bank .channels) ≡ 10
+      → k < 10
+      → now ≡ each (λ j. ranAt n j .channel) 0 k ++ drop k (bank .channels)
+      → ranOver (getD (settings .groups) k d) frames k (getD now k e) n ≡ ranAt n k
+  ran-here n k now d e groups channels h reached =
+      ap₂ (λ (group : Group) (channel : Channel). ranOver group frames k channel n)
+      (getD-default (settings .groups) k d (zeroGroup k) (omega arith))
+      (ap (λ (l : List Channel). getD l k e) reached
+      ∙ fill-here (λ j. ranAt n j .channel) (bank .channels) k e (omega arith)
+      ∙ getD-default (bank .channels) k e startChannel (omega arith))
+
+-- ---- the tests in their order
+module _ (n : ℕ) (settings : Settings) (bank : Bank) (frames : List ℕ) where
+  pub refuses-length : (length frames ≡ 11 * n → ⊥) → framesVerdict n settings bank frames ≡ record { number = wrong-length; place = 0 }
+  unfolding framesVerdict firstRefusal orElse
+  refuses-length h = rw (ne-eqb (length frames) (11 * n) h)
+
+  levels-last : orElse (levelsVerdict n frames) accepted ≡ levelsVerdict n frames
+  unfolding levelsVerdict
+  levels-last = orElse-end _ (first-accepted _)
+
+  pub passes-length : length frames ≡ 11 * n → framesVerdict n settings bank frames ≡ orElse (settingsVerdict settings) (orElse (bankVerdict settings bank) (levelsVerdict n frames))
+  unfolding framesVerdict firstRefusal
+  passes-length h =
+      orElse-pass _ _ (rw (eq-eqb (length frames) (11 * n) h))
+      ∙ ap (λ (v : Verdict). orElse (settingsVerdict settings) (orElse (bankVerdict settings bank) v)) levels-last
+
+  -- frames that are accepted are as many as the call takes
+  pub accepted-length : framesVerdict n settings bank frames .number ≡ 0 → length frames ≡ 11 * n
+  accepted-length h =
+      elim (ℕ-discrete (length frames) (11 * n)) [
+        | yes p ↦ p
+        | no p ↦ (let one : _≡_ {A = ℕ} 1 0 = sym (ap (λ (v : Verdict). v .number) (refuses-length p)) ∙ h in omega arith)
+      ]
+
+  -- ---- the answers, from the verdict that the code holds
+  module _ (v : Verdict) (is : v ≡ framesVerdict n settings bank frames) where
+    pub detected-refused : (v .number ≡ 0 → ⊥)
+        → _≡_ {A = Detected} (record { number = v .number; place = v .place; bank = bank; faults = 0; warnings = 0 }) (detectedOver n settings bank frames)
+    unfolding detectedOver detected
+    detected-refused h = rw (← is, ne-eqb (v .number) 0 h)
+
+    pub detected-accepted : (a : Advanced) → v .number ≡ 0 → a ≡ advancedOver n settings bank frames
+        → _≡_ {A = Detected} (record { number = v .number; place = v .place; bank = a .bank; faults = a .faults; warnings = a .warnings }) (detectedOver n settings bank frames)
+    unfolding detectedOver detected advancedOver framesVerdict
+    detected-accepted a h moved =
+        let passed : framesVerdict n settings bank frames ≡ accepted = first-accepted _ (sym (ap (λ (w : Verdict). w .number) is) ∙ h) in
+        rw (moved, is, passed)

@@ -1,0 +1,137 @@
+-- `detectors::bank::advance` meets its contract. The loop's invariant: the first k channels have run, the others stand as they came, and the words have their bits.
+-- The measure is how many channels are left. Assumes nothing.
+use Prim.Native.Nat.{_-_, _≤_, _<_}
+use mathlib.Core.Path.{_≡_, refl, ap}
+use mathlib.Core.List.{_++_}
+use native.Mathlib.Omega.{arith}
+use borrow.Author.Needs.{needs}
+use denote.Ref.{now}
+use lib.ListN.{length, drop}
+use Rattle.records.specs.Lists.{each}
+use Rattle.records.specs.Words.{wordOf}
+use Rattle.records.proofs.ListLaws.{filled-more}
+use Rattle.records.proofs.WordLaws.{added-more, added-fits}
+use Rattle.image.proofs.WritingLaws.{ten-groups}
+use Rattle.detectors.specs.declared.channel.Ran.{Ran}
+use Rattle.detectors.proofs.BankLaws.{ten-channels}
+use Rattle.detectors.proofs.TickLaws.{ranAt, ran-all, ran-here}
+use Rattle.detectors.proofs.bank.advance.Statement.{statement}
+use Rattle.detectors.proofs.bank.advance.Tie as tie
+
+abbrev Inv-loop : tie.InvT-loop
+Inv-loop frames n settings after₀ faults₀ warnings₀ k₀ after faults warnings k =
+    (k ≤ 10)
+    × ((after .channels ≡ each (λ j. ranAt settings frames after₀ n j .channel) 0 k ++ drop k (after₀ .channels))
+    × ((faults ≡ wordOf (λ j. ranAt settings frames after₀ n j .fault) k) × (warnings ≡ wordOf (λ j. ranAt settings frames after₀ n j .warning) k)))
+
+abbrev μ-loop : tie.MeasureT-loop
+μ-loop frames n settings after₀ faults₀ warnings₀ k₀ after faults warnings k = 10 - k
+
+-- what came with the parameters
+groups : (s : tie.Start Inv-loop μ-loop) → length (s .args .t1 .groups) ≡ 10
+groups s = ten-groups (s .args .t1) _ (s .good .0)
+
+channels : (s : tie.Start Inv-loop μ-loop) → length (s .args .bank .channels) ≡ 10
+channels s = ten-channels (s .args .bank) _ (s .good .1 .0)
+
+loop-holds : tie.Need-loop-holds Inv-loop μ-loop
+unfolding each wordOf
+loop-holds c = (omega arith, (refl, (refl, refl)))
+
+mul-channel : tie.Need-mul-channel Inv-loop μ-loop
+mul-channel c = search needs
+
+element-copy-out-channel : tie.Need-element-copy-out-channel Inv-loop μ-loop
+element-copy-out-channel c = search needs
+
+mul-run : tie.Need-mul-run Inv-loop μ-loop
+mul-run c = search needs
+
+element-copy-out-run : tie.Need-element-copy-out-run Inv-loop μ-loop
+element-copy-out-run c = search needs
+
+run-requires : tie.Need-run-requires Inv-loop μ-loop
+run-requires c κs = search needs
+
+-- the run is that of channel k
+ran : (c : tie.After-run Inv-loop μ-loop)
+    → c .run .result
+    ≡ ranAt (c .before .before .before .before .before .before .args .t1) (now (c .before .before .before .before .before .before .args .frames)) (c .before .before .before .before .before .before .args .bank) (c .before .before .before .before .before .before .args .n) (c .before .before .before .before .loop .k)
+ran c =
+    let l = c .before .before .before .before in
+    let s = l .before .before in
+    rw (c .run .ensures)
+    (ran-here (s .args .t1) (now (s .args .frames)) (s .args .bank) (s .args .n) (l .loop .k) (l .loop .after .channels) _ _ (groups s) (channels s) (omega arith) (l .loop .inv .1 .0))
+
+mul-next : tie.Need-mul-next Inv-loop μ-loop
+mul-next c = search needs
+
+element-set-from-next : tie.Need-element-set-from-next Inv-loop μ-loop
+element-set-from-next c = search needs
+
+bit-requires : tie.Need-bit-requires Inv-loop μ-loop
+bit-requires c κs = search needs
+
+add-faults : tie.Need-add-faults Inv-loop μ-loop
+add-faults c =
+    let l = c .before .before .before .before .before .before in
+    record { fits = added-fits _ (l .loop .k) _ _ _ (l .loop .inv .1 .1 .0) (c .bit .ensures) (ap (λ (r : Ran). r .fault) (ran (c .before .before))) (omega arith) }
+
+bit-requires-2 : tie.Need-bit-requires-2 Inv-loop μ-loop
+bit-requires-2 c κs = search needs
+
+add-warnings : tie.Need-add-warnings Inv-loop μ-loop
+add-warnings c =
+    let l = c .before .before .before .before .before .before .before in
+    record { fits = added-fits _ (l .loop .k) _ _ _ (l .loop .inv .1 .1 .1) (c .bit2 .ensures) (ap (λ (r : Ran). r .warning) (ran (c .before .before .before))) (omega arith) }
+
+add-k : tie.Need-add-k Inv-loop μ-loop
+add-k c = search needs
+
+loop-less : tie.Need-loop-less Inv-loop μ-loop
+loop-less c = search needs
+
+loop-again : tie.Need-loop-again Inv-loop μ-loop
+loop-again c =
+    let l = c .before .before .before .before .before .before .before in
+    let s = l .before .before in
+    let is = ran (c .before .before .before) in
+    let whole : l .loop .k < length (s .args .bank .channels) = omega (arith, channels s) in (
+      omega arith,
+      (
+        filled-more _ _ _ (l .loop .k) _ (l .loop .inv .1 .0) (ap (λ (r : Ran). r .channel) is) whole,
+        (
+          added-more _ (l .loop .k) _ _ _ (l .loop .inv .1 .1 .0) (c .before .bit .ensures) (ap (λ (r : Ran). r .fault) is) (omega arith),
+          added-more _ (l .loop .k) _ _ _ (l .loop .inv .1 .1 .1) (c .bit2 .ensures) (ap (λ (r : Ran). r .warning) is) (omega arith),
+        ),
+      ),
+    )
+
+returns : tie.Need-returns Inv-loop μ-loop
+returns c =
+    let l = c .before in
+    let s = l .before .before in
+    ran-all (s .args .t1) (now (s .args .frames)) (s .args .bank) (s .args .n) (l .loop .k) _ _ _ (s .pre .0) (omega arith) (channels s) (l .loop .inv .1 .0) (l .loop .inv .1 .1 .0) (l .loop .inv .1 .1 .1)
+
+pub advance-spec : {M : Type 1} → statement M
+advance-spec =
+    tie.close
+    (tie.spec
+    Inv-loop
+    μ-loop
+    loop-holds
+    mul-channel
+    element-copy-out-channel
+    mul-run
+    element-copy-out-run
+    run-requires
+    mul-next
+    element-set-from-next
+    bit-requires
+    add-faults
+    bit-requires-2
+    add-warnings
+    add-k
+    loop-less
+    loop-again
+    returns)

@@ -1,0 +1,4 @@
+pub mod Channel
+pub mod Bank
+pub mod Tick
+pub mod Run

@@ -1,0 +1,95 @@
+// The calls on frames: every test first, then the ticks.
+use crate::bank;
+use crate::bank::Bank;
+use image::Settings;
+use records::BAD_WORD;
+use records::Verdict;
+use records::WRONG_LENGTH;
+use records::or_else;
+use records::refuse_unless;
+ghost use Prim.Native.Nat.{_≤_, _*_};
+ghost use mathlib.Core.Path.{_≡_};
+ghost use lib.ListN.{length};
+ghost use Rattle.detectors.specs.Tick.{framesVerdict, levelsVerdict, detectedOver, ticked, engineTicked};
+
+// The bank after the call and the words, with number 0; or the refusal, with the bank as received
+// and zero words.
+pub struct Detected {
+    pub number: u8,
+    pub place: usize,
+    pub bank: Bank,
+    pub faults: u16,
+    pub warnings: u16,
+}
+
+// One detector tick, 5 µs, on one frame of eleven bytes.
+pub fn tick(settings: Settings, bank: Bank, frame: &[u8]) -> Detected
+    ensures { λ r. ⌜ r ≡ ticked settings bank (now (frame .entry)) ⌝ }
+{
+    detect(settings, bank, frame, 1)
+}
+
+// One engine tick: twenty frames, 220 bytes. Its words are those of the last of the twenty.
+pub fn engine_tick(settings: Settings, bank: Bank, frames: &[u8]) -> Detected
+    ensures { λ r. ⌜ r ≡ engineTicked settings bank (now (frames .entry)) ⌝ }
+{
+    detect(settings, bank, frames, 20)
+}
+
+fn detect(settings: Settings, bank: Bank, frames: &[u8], n: usize) -> Detected
+    requires { ⌜ 1 ≤ n ⌝ }
+    requires { ⌜ n ≤ 20 ⌝ }
+    ensures { λ r. ⌜ r ≡ detectedOver n settings bank (now (frames .entry)) ⌝ }
+{
+    let verdict = frames_verdict(settings, bank, frames, n);
+    let number = verdict.number;
+    let place = verdict.place;
+    if number != 0 {
+        return Detected {
+            number,
+            place,
+            bank,
+            faults: 0,
+            warnings: 0,
+        };
+    }
+    let advanced = bank::advance(settings, bank, frames, n);
+    let bank = advanced.bank;
+    Detected {
+        number,
+        place,
+        bank,
+        faults: advanced.faults,
+        warnings: advanced.warnings,
+    }
+}
+
+// The tests, in the order 1, 4, 8, 9.
+fn frames_verdict(settings: Settings, bank: Bank, frames: &[u8], n: usize) -> Verdict
+    requires { ⌜ n ≤ 20 ⌝ }
+    ensures { λ r. ⌜ r ≡ framesVerdict n settings bank (now (frames .entry)) ⌝ }
+{
+    if frames.len() != 11 * n {
+        return refuse_unless(false, WRONG_LENGTH, 0);
+    }
+    let levels = levels_verdict(frames, n);
+    let state = bank::bank_verdict(settings, bank);
+    let means = image::settings_verdict(settings);
+    or_else(means, or_else(state, levels))
+}
+
+fn levels_verdict(frames: &[u8], n: usize) -> Verdict
+    requires { ⌜ n ≤ 20 ⌝ }
+    requires { ⌜ length (now frames) ≡ 11 * n ⌝ }
+    ensures { λ r. ⌜ r ≡ levelsVerdict n (now (frames .entry)) ⌝ }
+{
+    let mut i = 0;
+    while i < n {
+        let verdict = refuse_unless(frames[11 * i + 10] < 32, BAD_WORD, 0);
+        if verdict.number != 0 {
+            return verdict;
+        }
+        i += 1;
+    }
+    refuse_unless(true, 0, 0)
+}
