@@ -1,6 +1,6 @@
 -- Ten channels over one frame. Assumes nothing.
-use Prim.Native.Nat.{ℕ, _-_, _/_}
-use mathlib.Core.Bool.{Bool, true, false, cond, not, _&&_, _||_}
+use Prim.Native.Nat.{ℕ, _-_}
+use mathlib.Core.Bool.{Bool, cond, not, _&&_, _||_}
 use mathlib.Core.List.{List}
 use lib.Dec.{ltb, leb, eqb}
 use lib.ListN.{getD}
@@ -21,7 +21,6 @@ use Rattle.detectors.specs.Channel.{ticks, channelAfter, faultBit, warni
 use Rattle.detectors.specs.declared.channel.Channel.{Channel}
 use Rattle.detectors.specs.declared.channel.Sample.{Sample}
 use Rattle.detectors.specs.declared.bank.Bank.{Bank}
-use Rattle.detectors.specs.declared.bank.Advanced.{Advanced}
 
 abbrev pub channelAt : Bank → ℕ → Channel
 channelAt bank k = getD (bank .channels) k startChannel
@@ -63,15 +62,6 @@ faultsOf settings before after = wordOf (λ k. faultBit (groupAt settings k) (ch
 
 unfoldable pub warningsOf : Settings → Bank → Bank → ℕ
 warningsOf settings before after = wordOf (λ k. warningBit (groupAt settings k) (channelAt before k) (channelAt after k)) 10
-
--- the bank after a frame with that tick's words
-unfoldable pub advanced : Settings → List ℕ → Bank → Advanced
-advanced settings frame bank =
-    record {
-      bank = bankAfter settings frame bank;
-      faults = faultsOf settings bank (bankAfter settings frame bank);
-      warnings = warningsOf settings bank (bankAfter settings frame bank);
-    }
 
 -- "All state starts false and zero."
 unfoldable pub startBank : Bank

@@ -1,7 +1,7 @@
 -- One channel over one tick of 5 µs. Assumes nothing.
 use Prim.Native.Nat.{ℕ, _+_, _-_, _/_, min}
-use mathlib.Core.Bool.{Bool, true, false, cond, not, _&&_, _||_, Bool·beq, xor}
-use lib.Dec.{ltb, leb, eqb}
+use mathlib.Core.Bool.{Bool, false, cond, not, _&&_, _||_, Bool·beq, xor}
+use lib.Dec.{ltb, leb}
 use Rattle.image.specs.declared.settings.FaultType.{FaultType}
 use Rattle.image.specs.declared.settings.FaultType.the-variants.{Over, UnderOrOver, Under, Off}
 use Rattle.image.specs.declared.settings.Input.{Input}

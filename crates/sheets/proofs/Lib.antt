@@ -1,3 +1,2 @@
 pub mod SearchLaws
-pub mod SheetLaws
 pub mod AcceptedSheet

@@ -7,7 +7,6 @@ use records::byte_at;
 use records::refuse_unless;
 use records::word_at;
 ghost use mathlib.Core.Path.{_≡_};
-ghost use lib.ListN.{length};
 ghost use Rattle.tables.specs.Tables.{cellAt, cellWritten, partVerdict};
 
 // The cell with a number. A byte past the table's end counts as 0.

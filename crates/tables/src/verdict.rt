@@ -6,7 +6,7 @@ use records::Verdict;
 use records::WRONG_LENGTH;
 use records::refuse_unless;
 ghost use mathlib.Core.Path.{_≡_};
-ghost use Rattle.tables.specs.Tables.{isTable, cellVerdict, tableVerdict};
+ghost use Rattle.tables.specs.Tables.{cellVerdict, tableVerdict};
 
 // Number 4 at a cell with a field out of its range.
 pub fn cell_verdict(table: &[u8], k: u8) -> Verdict

@@ -1,14 +1,14 @@
 -- Laws of the translation's verdict: the sheet's tests, then cells, then room. Assumes nothing.
-use Prim.Native.Nat.{ℕ, _*_, _≤_, _<_}
+use Prim.Native.Nat.{ℕ, _*_, _≤_}
 use mathlib.Core.Path.{_≡_, refl, ap, sym, _∙_}
 use mathlib.Core.Bool.{Bool, true, false, cond}
 use mathlib.Core.List.{List, [], _∷_, _++_}
-use borrow.Author.Tests.{eq-eqb, ne-eqb, eqb-false, le-leb, lt-leb, leb-true}
+use borrow.Author.Tests.{eq-eqb, ne-eqb, eqb-false, leb-true}
 use lib.Dec.{leb, eqb}
 use lib.ListN.{length, drop}
-use Rattle.records.specs.Verdicts.{refusedUnless, orElse, firstRefusal}
+use Rattle.records.specs.Verdicts.{refusedUnless, firstRefusal}
 use Rattle.records.specs.declared.verdict.Verdict.{Verdict}
-use Rattle.records.proofs.VerdictLaws.{first-append, first-cons, first-last, orElse-pass, orElse-hit, orElse-zero, unless-zero}
+use Rattle.records.proofs.VerdictLaws.{unless-zero, first-append, first-cons, accepted-passes}
 use Rattle.sheets.specs.Sheets.{sheetTests, sheetVerdict}
 use Rattle.translator.specs.Translation.{cellTotal, tableOf, translationVerdict, translation, translated}
 
@@ -20,25 +20,10 @@ module _ (sheet : List ℕ) (room : ℕ) where
   abbrev room-test : Verdict
   room-test = refusedUnless (leb (12 * cellTotal sheet) room) 10 0
 
-  in-order : translationVerdict sheet room ≡ orElse (sheetVerdict sheet) (orElse cells-test room-test)
+  -- the sheet's verdict stands for the sheet's tests
+  pub in-order : firstRefusal (sheetVerdict sheet ∷ cells-test ∷ room-test ∷ []) ≡ translationVerdict sheet room
   unfolding translationVerdict sheetVerdict
-  in-order =
-      first-append (sheetTests sheet) (cells-test ∷ room-test ∷ [])
-      ∙ ap (orElse (firstRefusal (sheetTests sheet)))
-      (first-cons cells-test (room-test ∷ []) ∙ ap (orElse cells-test) (first-last (leb (12 * cellTotal sheet) room) 10 0 (eqb-false 10 0 refl)))
-
-  pub sheet-shown : (sheetVerdict sheet .number ≡ 0 → ⊥) → translationVerdict sheet room ≡ sheetVerdict sheet
-  sheet-shown h = in-order ∙ orElse-hit _ _ h
-
-  module _ (accepted : sheetVerdict sheet .number ≡ 0) where
-    after-sheet : (few : Bool) → leb (cellTotal sheet) 63 ≡ few → translationVerdict sheet room ≡ orElse (refusedUnless few 7 0) room-test
-    after-sheet few h = in-order ∙ orElse-pass _ _ accepted ∙ ap (λ (b : Bool). orElse (refusedUnless b 7 0) room-test) h
-
-    pub cells-shown : 63 < cellTotal sheet → translationVerdict sheet room ≡ refusedUnless false 7 0
-    cells-shown h = after-sheet false (lt-leb (cellTotal sheet) 63 h) ∙ orElse-hit _ _ (eqb-false 7 0 refl)
-
-    pub room-shown : cellTotal sheet ≤ 63 → translationVerdict sheet room ≡ room-test
-    room-shown h = after-sheet true (le-leb (cellTotal sheet) 63 h) ∙ orElse-pass _ _ refl
+  in-order = first-cons _ _ ∙ sym (first-append (sheetTests sheet) (cells-test ∷ room-test ∷ []))
 
   -- accepted only where every test passes
   pub record Accepted : Type 0 where
@@ -48,12 +33,11 @@ module _ (sheet : List ℕ) (room : ℕ) where
 
   pub accepted-all : translationVerdict sheet room .number ≡ 0 → Accepted
   accepted-all h =
-      let first = orElse-zero (sheetVerdict sheet) (orElse cells-test room-test) (sym (ap (λ (v : Verdict). v .number) in-order) ∙ h) in
-      let second = orElse-zero cells-test room-test (first .1) in
+      let passes = accepted-passes (sheetVerdict sheet ∷ cells-test ∷ room-test ∷ []) (ap (λ (v : Verdict). v .number) in-order ∙ h) in
       record {
-        sound = first .0;
-        few = leb-true _ _ (unless-zero _ _ _ (eqb-false 7 0 refl) (second .0));
-        roomy = leb-true _ _ (unless-zero _ _ _ (eqb-false 10 0 refl) (second .1));
+        sound = passes 0;
+        few = leb-true _ _ (unless-zero _ _ _ (eqb-false 7 0 refl) (passes 1));
+        roomy = leb-true _ _ (unless-zero _ _ _ (eqb-false 10 0 refl) (passes 2));
       }
 
 -- ---- the answer and the buffer, from the verdict that the code found
