@@ -11,10 +11,10 @@
 // the settings: that group's bytes, and whether all others are zero. The last line counts the rows.
 mod fields;
 
+use console::print;
 use image::Reading;
 use image::Settings;
 use libc::STDIN_FILENO;
-use libc::STDOUT_FILENO;
 use text::Line;
 ghost use Prim.Native.Nat.{_<_};
 
@@ -36,12 +36,6 @@ fn main() {
         rows += 1;
     }
     print(text::empty().word(b"rows").item(rows).word(b"\n"));
-}
-
-fn print(line: Line) {
-    let bytes = line.bytes;
-    let count = line.count();
-    io::write_all(STDOUT_FILENO, &bytes[..count]);
 }
 
 // Whether there was a row.

@@ -5,42 +5,27 @@
 //
 // all in one line, with times in µs and the group's normal bytes in hexadecimal. What the library
 // refuses prints `refused NUMBER PLACE`.
-mod input;
 mod names;
 
+use console::print;
 use image::Group;
 use image::Logic;
 use image::Output;
 use image::Settings;
 use image::Threshold;
-use libc::STDOUT_FILENO;
 use text::Line;
 
 fn main() {
     // One byte more than an image, so that a longer input is refused and not cut.
     let mut buffer = [0u8; 81];
-    let count = input::receive(&mut buffer);
+    let count = console::receive(&mut buffer);
     let reading = image::read(&buffer[..count]);
     if reading.number != 0 {
-        print(refusal(reading.number, reading.place));
+        print(console::refusal(reading.number, reading.place));
         return;
     }
     let settings = reading.settings;
     print_groups(settings);
-}
-
-fn print(line: Line) {
-    let bytes = line.bytes;
-    let count = line.count();
-    io::write_all(STDOUT_FILENO, &bytes[..count]);
-}
-
-fn refusal(number: u8, place: usize) -> Line {
-    text::empty()
-        .word(b"refused")
-        .item(number as u64)
-        .item(place as u64)
-        .word(b"\n")
 }
 
 fn print_groups(settings: Settings) {

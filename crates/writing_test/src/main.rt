@@ -10,9 +10,9 @@
 // alone; where they were written, the eighty bytes follow. The last line counts the rows.
 mod changes;
 
+use console::print;
 use image::Settings;
 use libc::STDIN_FILENO;
-use libc::STDOUT_FILENO;
 use text::Line;
 ghost use Prim.Native.Nat.{_≤_};
 
@@ -27,12 +27,6 @@ fn main() {
         rows += 1;
     }
     print(text::empty().word(b"rows").item(rows).word(b"\n"));
-}
-
-fn print(line: Line) {
-    let bytes = line.bytes;
-    let count = line.count();
-    io::write_all(STDOUT_FILENO, &bytes[..count]);
 }
 
 // Whether there was a row.

@@ -1,12 +1,12 @@
--- `settings::input::receive` meets its contract: what was read lies within the buffer, which keeps its length, and each turn
+-- `console::receive` meets its contract: what was read lies within the buffer, which keeps its length, and each turn
 -- leaves fewer bytes to read. Assumes nothing.
 use Prim.Native.Nat.{_≤_, _-_}
 use mathlib.Core.Path.{_≡_}
 use lib.ListN.{length}
 use borrow.Author.Needs.{needs}
 use Rattle.io.proofs.Counting.{counts}
-use Rattle.settings.proofs.input.receive.Statement.{statement}
-use Rattle.settings.proofs.input.receive.Tie as tie
+use Rattle.console.proofs.receive.Statement.{statement}
+use Rattle.console.proofs.receive.Tie as tie
 
 abbrev Inv-loop : tie.InvT-loop
 Inv-loop buffer₀ done₀ buffer done = (length buffer ≡ length buffer₀) × (done ≤ length buffer)

@@ -1,0 +1,14 @@
+-- The line that a program prints of a refusal. Assumes nothing.
+use Prim.Native.Nat.{ℕ}
+use mathlib.Core.List.{[], _∷_}
+use Rattle.text.specs.Text.{emptyLine, appended, decimalText}
+use Rattle.text.specs.declared.Line.{Line}
+
+-- "refused NUMBER PLACE", and a newline
+unfoldable pub refusalLine : ℕ → ℕ → Line
+refusalLine number place =
+    appended
+    (appended
+    (appended (appended emptyLine (0x72 ∷ 0x65 ∷ 0x66 ∷ 0x75 ∷ 0x73 ∷ 0x65 ∷ 0x64 ∷ [])) (0x20 ∷ decimalText number))
+    (0x20 ∷ decimalText place))
+    (0x0a ∷ [])

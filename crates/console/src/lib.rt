@@ -1,0 +1,55 @@
+// What the programs share: standard input read whole, a line written to standard output, and the
+// line of a refusal.
+//
+// No contract can say which bytes C's read and write move: `receive` promises only that its count
+// lies within the buffer, and `print` only how many bytes it hands on.
+use libc::STDIN_FILENO;
+use libc::STDOUT_FILENO;
+use text::Line;
+ghost use mathlib.Core.Path.{_≡_};
+ghost use lib.ListN.{length};
+ghost use Rattle.io.specs.Counts.{Counts};
+ghost use Rattle.text.specs.Text.{written};
+ghost use Rattle.console.specs.Refusal.{refusalLine};
+
+// Reads standard input to its end or until the buffer is full, and answers how many bytes it put at
+// the start of the buffer. A read that fails counts as no byte at all, however many came before it,
+// so that what came is never taken for the whole input.
+pub fn receive(buffer: &mut [u8]) -> usize
+    ensures { λ r. ⌜ Counts r (now (buffer .exit)) ⌝ }
+{
+    let mut done = 0;
+    while done < buffer.len() {
+        let got = libc::read(STDIN_FILENO, &mut buffer[done..]);
+        if got < 0 {
+            return 0;
+        }
+        let more = io::count(got, &buffer[done..]);
+        if more == 0 {
+            return done;
+        }
+        done += more;
+    }
+    done
+}
+
+// Writes a line to standard output, and answers how many bytes stand in it.
+pub fn print(line: Line) -> usize
+    ensures { λ r. ⌜ r ≡ length (written line) ⌝ }
+{
+    let bytes = line.bytes;
+    let count = line.count();
+    io::write_all(STDOUT_FILENO, &bytes[..count]);
+    count
+}
+
+// "refused NUMBER PLACE"
+pub fn refusal(number: u8, place: usize) -> Line
+    ensures { λ r. ⌜ r ≡ refusalLine number place ⌝ }
+{
+    text::empty()
+        .word(b"refused")
+        .item(number as u64)
+        .item(place as u64)
+        .word(b"\n")
+}
