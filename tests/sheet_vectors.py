@@ -1,0 +1,283 @@
+#!/usr/bin/env python3
+"""Writes the rows that sheet_test reads and the lines that it must print, by the paper.
+
+  python3 tests/sheet_vectors.py FOLDER         the chosen rows, into FOLDER/stdin and FOLDER/stdout
+  python3 tests/sheet_vectors.py --all FOLDER   every pair of bad fields, every timeout, and many sheets by chance
+
+The chosen rows stand in crates/sheet_test. To try them all:
+
+  python3 tests/sheet_vectors.py --all target/all
+  ./wrackbasket sheet_test target/all/stdin | cmp - target/all/stdout
+
+A row is a name of at most 48 bytes with zeros after it, the length of the sheet and that of the lent
+table buffer in two bytes each, then the sheet."""
+import itertools
+import pathlib
+import random
+import sys
+
+from sheet_model import ACCEPTED, CELL, MOST, STEP, STEP_FIELDS
+from sheet_model import record_bytes, sheet_verdict, translated_cells, translation
+
+NAME_LENGTH = 48
+ROOM = CELL * MOST
+EXAMPLES = pathlib.Path(__file__).parent.parent / "examples"
+PAPER = bytes.fromhex("0A 00 01 00 00 00 00 00 00 00 00 00 88 13 01 00 01 00 03 00 01 00 0A 00 00 00 00 00 00 00 00 00")
+
+# Timeouts on each side of each number of cells.
+TIMEOUTS = [0, 1, 3999, 4000, 4001, 7999, 8000, 8001, 12000, 12001, 36000, 36001, 39999, 40000]
+
+# Fields of a step, tag 2 of three, that are accepted, and that are refused 4.
+GOOD = [
+    ("tag", 1), ("tag", 255), ("tag", 256), ("tag", 65535), ("outputs", 1), ("outputs", 255), ("outputs", 256), ("outputs", 1023),
+    ("mask", 1, "fault jump", 2), ("mask", 256, "fault jump", 2), ("mask", 1023, "fault jump", 2),
+    ("channel", 1, "sequence jump", 2), ("channel", 10, "sequence jump", 2),
+    ("channel", 1, "level", 1, "sequence jump", 2), ("channel", 10, "level", 1, "sequence jump", 2),
+    ("timeout", 1, "timeout jump", 2), ("timeout", 40000, "timeout jump", 2), ("timeout", 256, "timeout jump", 2),
+]
+BAD = [
+    ("tag", 0), ("outputs", 1024), ("outputs", 65535), ("outputs", 2048),
+    ("mask", 1024, "fault jump", 2), ("mask", 65535, "fault jump", 2), ("mask", 1), ("mask", 256), ("fault jump", 2), ("fault jump", 256),
+    ("channel", 11, "sequence jump", 2), ("channel", 255, "sequence jump", 2), ("channel", 11), ("channel", 1), ("sequence jump", 2),
+    ("channel", 1, "level", 2, "sequence jump", 2), ("channel", 1, "level", 255, "sequence jump", 2), ("level", 1), ("level", 2),
+    ("level", 1, "sequence jump", 2), ("sequence jump", 512),
+    ("timeout", 40001, "timeout jump", 2), ("timeout", 65535, "timeout jump", 2), ("timeout", 1), ("timeout", 256), ("timeout jump", 2),
+    ("timeout jump", 768),
+]
+
+
+def step(tag, *pairs):
+    values = dict.fromkeys(STEP_FIELDS, 0)
+    values["tag"] = tag
+    for name, value in zip(pairs[::2], pairs[1::2]):
+        values[name] = value
+    return values
+
+
+def sheet_of(steps):
+    return b"".join(record_bytes(STEP_FIELDS, one) for one in steps)
+
+
+def plain(count):
+    return [step(tag) for tag in range(1, count + 1)]
+
+
+def waits(timeouts):
+    """A step for each timeout, which leads on to the next and from the last to the first."""
+    return [step(k + 1, *(("timeout", timeout, "timeout jump", (k + 1) % len(timeouts) + 1) if timeout else ()))
+            for k, timeout in enumerate(timeouts)]
+
+
+def case(name, sheet, room=ROOM):
+    return (name, sheet if isinstance(sheet, bytes) else sheet_of(sheet), room)
+
+
+def words(pairs):
+    return "-".join(str(part).replace(" ", "-") for part in pairs)
+
+
+def length_cases():
+    long = sheet_of(plain(65))
+    for length in (0, 1, 15, 16, 17, 31, 32, 33, 992, 1007, 1008, 1009, 1023, 1024, 1040):
+        yield case(f"length-{length}", long[:length])
+    yield case("length-1024-all-zero", bytes(1024))
+    yield case("length-17-bad-fields-no-room", bytes(17), 0)
+    yield case("zero-step", bytes(16))
+
+
+def field_cases(every):
+    """Each edge of each field, in the first, the middle and the last of three steps."""
+    for place in range(3):
+        for pairs in GOOD + BAD:
+            if not every and place != 1 and pairs in GOOD[1:-2:3]:
+                continue
+            steps = [step(3), step(4), step(5)]
+            steps[place] = step(2, *pairs)
+            if pairs[0] == "tag":
+                steps[place]["tag"] = pairs[1]
+            yield case(f"step-{place}-{words(pairs)}", steps)
+
+
+def level_cases():
+    for level in (0, 1, 2):
+        yield case(f"level-{level}-channel-0", [step(1, "level", level)])
+        yield case(f"level-{level}-channel-10", [step(1, "channel", 10, "level", level, "sequence jump", 1)])
+
+
+def lowest_cases():
+    """Two steps that the same test refuses: the lower is named."""
+    for first, second in itertools.combinations(range(4), 2):
+        for name, bad in (("fields", step(7, "outputs", 1024)), ("unknown", step(7, "mask", 1, "fault jump", 8))):
+            steps = [step(20 + k) for k in range(4)]
+            steps[first], steps[second] = dict(bad, tag=30), dict(bad, tag=31)
+            yield case(f"two-{name}-at-{first}-{second}", steps)
+
+
+def tag_cases():
+    """Repeated tags: the lowest later step is named. Tags are whole numbers of sixteen bits."""
+    for name, tags in {
+        "A-B-B-A": (5, 6, 6, 5), "A-B-A-B": (5, 6, 5, 6), "A-A-B-B": (5, 5, 6, 6), "A-B-C-A": (5, 6, 7, 5), "A-B-C-C": (5, 6, 7, 7),
+        "A-A-A-A": (5, 5, 5, 5), "low-byte-alike": (1, 257, 513, 65281), "high-byte-alike": (256, 257, 258, 511),
+        "bytes-exchanged": (258, 513, 1, 256), "1-10-257": (1, 10, 257), "257-257": (257, 1, 257), "1-10-100-1000": (1, 10, 100, 1000),
+        "65535-65535": (65535, 255, 65280, 65535),
+    }.items():
+        yield case(f"tags-{name}", [step(tag) for tag in tags])
+    for order in itertools.permutations((1, 10, 257)):
+        yield case(f"tags-{words(order)}-jumps", [
+            step(order[0], "timeout", 4001, "timeout jump", 257, "mask", 1, "fault jump", 10),
+            step(order[1], "timeout", 8001, "timeout jump", 1, "mask", 2, "fault jump", 257),
+            step(order[2], "timeout", 5, "timeout jump", 10, "channel", 3, "sequence jump", 1)])
+    yield case("last-of-63-repeats-first", plain(62) + [step(1)])
+    yield case("last-of-63-repeats-the-one-before", plain(62) + [step(62)])
+
+
+def unknown_cases():
+    jumps = {"fault": ("mask", 1), "sequence": ("channel", 1), "timeout": ("timeout", 1)}
+    for place in range(3):
+        for exit, pair in jumps.items():
+            steps = [step(1), step(10), step(257)]
+            steps[place] = step(steps[place]["tag"], *pair, f"{exit} jump", 2)
+            yield case(f"unknown-{exit}-at-{place}", steps)
+    for tag, known in ((257, 1), (1, 257), (10, 1), (1, 10), (256, 1), (65535, 255), (255, 65535)):
+        yield case(f"unknown-{tag}-known-{known}", [step(known, "mask", 1, "fault jump", tag)])
+    all_three = sum((pair for pair in jumps.values()), ("fault jump", 2, "sequence jump", 3, "timeout jump", 4))
+    yield case("unknown-all-three", [step(1, *all_three)])
+    yield case("known-fault-unknown-timeout", [step(1, "mask", 1, "fault jump", 1, "timeout", 1, "timeout jump", 4)])
+    yield case("known-timeout-unknown-sequence", [step(1, "channel", 1, "sequence jump", 2, "timeout", 1, "timeout jump", 1)])
+
+
+def order_cases():
+    """Several refusals at once: the first test decides, whatever the steps."""
+    parts = {4: step(90, "level", 1), 5: step(1), 6: step(92, "channel", 2, "sequence jump", 99), 7: None, 10: None}
+    for size in range(2, 6):
+        for numbers in itertools.combinations(parts, size):
+            timeouts = [40000] * 6 + [1] * 4 if 7 in numbers else [1] * 4
+            bad = [parts[number] for number in numbers if parts[number]]
+            room = 0 if 10 in numbers else ROOM
+            yield case(f"order-{words(numbers)}", waits(timeouts) + bad, room)
+            yield case(f"order-{words(numbers)}-from-the-end", waits(timeouts) + bad[::-1], room)
+            yield case(f"order-1-{words(numbers)}", sheet_of(waits(timeouts) + bad)[:-1], room)
+
+
+def count_cases():
+    """63 cells and 64, and timeouts on each side."""
+    six = [40000] * 6
+    yield case("six-of-40000-and-three", waits(six + [1, 1, 1]))
+    yield case("six-of-40000-and-four", waits(six + [1, 1, 1, 1]))
+    yield case("six-of-40000-and-four-no-room", waits(six + [1, 1, 1, 1]), 0)
+    yield case("63-steps-of-0", waits([0] * 63))
+    yield case("63-steps-of-4000", waits([4000] * 63))
+    yield case("63-steps-one-of-4001", waits([0] * 30 + [4001] + [0] * 32))
+    yield case("62-steps-one-of-4001", waits([0] * 61 + [4001]))
+    yield case("63-steps-of-40000", waits([40000] * 63))
+    yield case("259-cells", waits([40000] * 25 + [36000]))
+    yield case("31-steps-of-4001-and-one", waits([4001] * 31 + [4000]))
+    yield case("32-steps-of-4001", waits([4001] * 32))
+    for timeout in TIMEOUTS:
+        yield case(f"timeout-{timeout}", [step(8), *waits([timeout])[:1], step(9, "mask", 1, "fault jump", 9)])
+
+
+def room_cases():
+    sheets = {"paper": PAPER, "one-cell": sheet_of(plain(1)), "63-cells": sheet_of(waits([40000] * 6 + [1, 1, 1]))}
+    for name, sheet in sheets.items():
+        needed = CELL * len(translated_cells(sheet))
+        for room in sorted({0, 1, needed - CELL, needed - 1, needed, needed + 1, needed + CELL}):
+            yield case(f"{name}-room-{room}", sheet, room)
+
+
+def jump_cases():
+    """Jumps to a step itself, into cut steps and over them, by each exit."""
+    all_three = ("mask", 5, "channel", 9, "level", 1)
+    for name, targets in {"itself": (2, 2, 2), "first": (1, 1, 1), "last": (3, 3, 3), "apart": (1, 2, 3), "apart-back": (3, 2, 1)}.items():
+        for timeout in (1, 4000, 4001, 12345, 40000):
+            jumps = ("fault jump", targets[0], "sequence jump", targets[1], "timeout jump", targets[2], "timeout", timeout)
+            cut = step(2, *all_three, *jumps, "outputs", 0x2A5)
+            ends = [step(1, "timeout", 9000, "timeout jump", 2), step(3, "mask", 1023, "fault jump", 2, "outputs", 1023)]
+            yield case(f"jumps-to-{name}-timeout-{timeout}", [ends[0], cut, ends[1]])
+
+
+def chance_sheet(chance, longest):
+    """A sheet by chance that is nearly always accepted."""
+    count = chance.choice((1, 2, 3, 5, 8, chance.randint(1, longest)))
+    tags = chance.sample(range(1, 65536), count - count // 2) + chance.sample(range(1, 600), count // 2)
+    steps = []
+    for tag in tags:
+        one = step(tag, "outputs", chance.randrange(1024))
+        if chance.random() < 0.6:
+            one["mask"], one["fault jump"] = chance.choice((1 << chance.randrange(10), chance.randint(1, 1023))), chance.choice(tags)
+        if chance.random() < 0.6:
+            one["channel"], one["level"], one["sequence jump"] = chance.randint(1, 10), chance.randint(0, 1), chance.choice(tags)
+        if chance.random() < 0.6:
+            one["timeout"] = chance.choice((1, 2, 3, chance.randint(1, 4000), chance.choice(TIMEOUTS[1:]), chance.randint(4001, 40000)))
+            one["timeout jump"] = chance.choice(tags)
+        steps.append(one)
+    return sheet_of(steps)
+
+
+def damaged(chance, sheet):
+    """One or two bytes changed, or the length."""
+    bytes_now = bytearray(sheet)
+    for _ in range(chance.randint(1, 2)):
+        bytes_now[chance.randrange(len(sheet))] = chance.choice((0, 1, 4, chance.randrange(256)))
+    return bytes(bytes_now[:chance.choice((len(sheet), len(sheet), len(sheet), len(sheet) - 1))])
+
+
+def chance_cases(seed, count, longest):
+    chance = random.Random(seed)
+    for turn in range(count):
+        sheet = chance_sheet(chance, longest)
+        if turn % 3 == 2:
+            sheet = damaged(chance, sheet)
+        needed = CELL * len(translated_cells(sheet)) if sheet_verdict(sheet) == ACCEPTED else ROOM
+        room = chance.choice((ROOM, needed, needed, needed - 1, needed + chance.randrange(20)))
+        yield case(f"chance-{seed}-{turn}", sheet, min(room, 800))
+
+
+def example_cases():
+    yield case("paper", PAPER)
+    yield case("recorder", (EXAMPLES / "recorder.sheet").read_bytes())
+
+
+def chosen_cases():
+    return [*example_cases(), *length_cases(), *field_cases(False), *level_cases(), *lowest_cases(), *tag_cases(), *unknown_cases(),
+            *order_cases(), *count_cases(), *room_cases(), *jump_cases(), *chance_cases(1, 30, 12)]
+
+
+def all_cases():
+    yield from field_cases(True)
+    for timeout in range(65536):
+        yield case(f"every-timeout-{timeout}", [step(1, "timeout", timeout, "timeout jump", 1)], ROOM)
+    for (i, one), (j, other) in itertools.product(enumerate(GOOD + BAD), repeat=2):
+        yield case(f"pair-{i}-{j}", [step(2, *one), step(3, *other)])
+    yield from chance_cases(2, 20000, 63)
+
+
+def row_of(name, sheet, room):
+    assert len(name) <= NAME_LENGTH, name
+    return name.encode("ascii").ljust(NAME_LENGTH, b"\0") + len(sheet).to_bytes(2, "little") + room.to_bytes(2, "little") + sheet
+
+
+def line_of(name, sheet, room):
+    (number, place), table = translation(sheet, room)
+    cells = [table[at:at + CELL].hex() for at in range(0, len(table), CELL)]
+    line = f"{name} {number} {place} {len(cells)} rest kept sheet {{}} {{}}".format(*sheet_verdict(sheet))
+    if number == 0:
+        line += " table 0 0 again same " + " ".join(cells)
+    return line
+
+
+def main(arguments):
+    every = arguments[:1] == ["--all"]
+    folders = arguments[1:] if every else arguments
+    if len(folders) != 1:
+        sys.exit(__doc__)
+    cases = list(all_cases() if every else chosen_cases())
+    assert len({name for name, sheet, room in cases}) == len(cases)
+    folder = pathlib.Path(folders[0])
+    folder.mkdir(parents=True, exist_ok=True)
+    (folder / "stdin").write_bytes(b"".join(row_of(*one) for one in cases))
+    (folder / "stdout").write_text("".join(line_of(*one) + "\n" for one in cases) + f"rows {len(cases)}\n")
+
+
+if __name__ == "__main__":
+    main(sys.argv[1:])
