@@ -16,8 +16,8 @@ each with a case of its own, since no channel may disturb another."""
 import itertools
 import pathlib
 import random
-import sys
 
+import vectors
 from detector_model import FRAME_LENGTH, FRAMES, LEVELS, Channel, engine_tick, start, tick, ticks
 from image_model import CHANNELS, DELAYS, FAULTS, INPUTS, LENGTH, PULSES
 from image_model import family, image_verdict, settings_of, written_image
@@ -394,17 +394,5 @@ def all_rows():
     return [*every_threshold(), *every_pulse(), *chance_rows(2000, 0.03)]
 
 
-def main(arguments):
-    every = arguments[:1] == ["--all"]
-    folders = arguments[1:] if every else arguments
-    if len(folders) != 1:
-        sys.exit(__doc__)
-    rows = all_rows() if every else chosen_rows()
-    folder = pathlib.Path(folders[0])
-    folder.mkdir(parents=True, exist_ok=True)
-    (folder / "stdin").write_bytes(b"".join(row.row() for row in rows))
-    (folder / "stdout").write_text("".join(line + "\n" for row in rows for line in row.lines()) + f"rows {len(rows)}\n")
-
-
 if __name__ == "__main__":
-    main(sys.argv[1:])
+    vectors.write(__doc__, chosen_rows, all_rows, Row.row, Row.lines)

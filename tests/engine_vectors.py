@@ -15,8 +15,8 @@ then the state's elapsed, the word and the length of the table or sheet in two b
 or sheet, and the stretches of a run: a word and for how many ticks it stands, in two bytes each."""
 import pathlib
 import random
-import sys
 
+import vectors
 from sheet_model import ACCEPTED, CELL, CELL_FIELDS, EXITS, START, WORDS
 from sheet_model import record_bytes, sheet_verdict, steps_of, table_verdict, translated_cells
 from sheet_model import tick_sheet, tick_table, translation
@@ -327,18 +327,6 @@ def line_of(name, kind, data, state, word, stretches):
     return " ".join([name, *map(str, numbers)])
 
 
-def main(arguments):
-    every = arguments[:1] == ["--all"]
-    folders = arguments[1:] if every else arguments
-    if len(folders) != 1:
-        sys.exit(__doc__)
-    cases = list(dict.fromkeys(all_cases() if every else chosen_cases()))
-    assert len({one[0] for one in cases}) == len(cases)
-    folder = pathlib.Path(folders[0])
-    folder.mkdir(parents=True, exist_ok=True)
-    (folder / "stdin").write_bytes(b"".join(row_of(*one) for one in cases))
-    (folder / "stdout").write_text("".join(line_of(*one) + "\n" for one in cases) + f"rows {len(cases)}\n")
-
-
 if __name__ == "__main__":
-    main(sys.argv[1:])
+    vectors.write(__doc__, lambda: dict.fromkeys(chosen_cases()), lambda: dict.fromkeys(all_cases()),
+                  lambda one: row_of(*one), lambda one: [line_of(*one)], named=True)

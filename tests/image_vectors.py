@@ -12,9 +12,8 @@ The chosen rows stand in crates/reading_test. To try them all:
 A row is five bytes: the length, then two changes of an address and a value each, made in that order
 to the blank image, followed by zeros where it is longer. A change at or past the length is none."""
 import itertools
-import pathlib
-import sys
 
+import vectors
 from image_model import CHANNELS, LENGTH, family, image_verdict, normal_image, numbers
 from image_model import reserved_bits, settings_of, written_image
 
@@ -125,17 +124,10 @@ def line_of(row):
     return f"{start} {accepted_line(image, first[0] // 8 if first[0] < LENGTH else 0)}"
 
 
-def main(arguments):
-    every = arguments[:1] == ["--all"]
-    folders = arguments[1:] if every else arguments
-    if len(folders) != 1:
-        sys.exit(__doc__)
-    rows = all_rows() if every else chosen_rows()
-    folder = pathlib.Path(folders[0])
-    folder.mkdir(parents=True, exist_ok=True)
-    (folder / "stdin").write_bytes(b"".join(bytes([length, *first, *second]) for length, first, second in rows))
-    (folder / "stdout").write_text("".join(line_of(row) + "\n" for row in rows) + f"rows {len(rows)}\n")
+def row_of(row):
+    length, first, second = row
+    return bytes([length, *first, *second])
 
 
 if __name__ == "__main__":
-    main(sys.argv[1:])
+    vectors.write(__doc__, chosen_rows, all_rows, row_of, lambda row: [line_of(row)])

@@ -10,9 +10,8 @@ The chosen rows stand in crates/pin_test. To try them all:
   ./wrackbasket pin_test target/all/stdin | cmp - target/all/stdout
 
 crates/pin_test/src/main.rt says what a row and a line hold."""
-import pathlib
-import sys
 
+import vectors
 from detector_model import pins
 from image_model import LENGTH, PULLS, SOURCES, image_verdict, settings_of
 
@@ -61,17 +60,5 @@ def line_of(outputs, k, delay, sevens):
     return f"{row_of(outputs, k, delay, sevens).hex()} {number} {place} {word:04x}"
 
 
-def main(arguments):
-    every = arguments[:1] == ["--all"]
-    folders = arguments[1:] if every else arguments
-    if len(folders) != 1:
-        sys.exit(__doc__)
-    cases = list(all_cases() if every else chosen_cases())
-    folder = pathlib.Path(folders[0])
-    folder.mkdir(parents=True, exist_ok=True)
-    (folder / "stdin").write_bytes(b"".join(row_of(*one) for one in cases))
-    (folder / "stdout").write_text("".join(line_of(*one) + "\n" for one in cases) + f"rows {len(cases)}\n")
-
-
 if __name__ == "__main__":
-    main(sys.argv[1:])
+    vectors.write(__doc__, chosen_cases, all_cases, lambda one: row_of(*one), lambda one: [line_of(*one)])

@@ -14,8 +14,8 @@ table buffer in two bytes each, then the sheet."""
 import itertools
 import pathlib
 import random
-import sys
 
+import vectors
 from sheet_model import ACCEPTED, CELL, MOST, STEP, STEP_FIELDS
 from sheet_model import record_bytes, sheet_verdict, translated_cells, translation
 
@@ -266,18 +266,5 @@ def line_of(name, sheet, room):
     return line
 
 
-def main(arguments):
-    every = arguments[:1] == ["--all"]
-    folders = arguments[1:] if every else arguments
-    if len(folders) != 1:
-        sys.exit(__doc__)
-    cases = list(all_cases() if every else chosen_cases())
-    assert len({name for name, sheet, room in cases}) == len(cases)
-    folder = pathlib.Path(folders[0])
-    folder.mkdir(parents=True, exist_ok=True)
-    (folder / "stdin").write_bytes(b"".join(row_of(*one) for one in cases))
-    (folder / "stdout").write_text("".join(line_of(*one) + "\n" for one in cases) + f"rows {len(cases)}\n")
-
-
 if __name__ == "__main__":
-    main(sys.argv[1:])
+    vectors.write(__doc__, chosen_cases, all_cases, lambda one: row_of(*one), lambda one: [line_of(*one)], named=True)

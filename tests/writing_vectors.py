@@ -14,9 +14,8 @@ A row is 64 bytes: a name of at most 47 bytes with zeros after it, the length of
 four changes of a group, a field and a value of two bytes each, made in that order to the settings
 that the blank image means. A change of group 255 is none."""
 import itertools
-import pathlib
-import sys
 
+import vectors
 from image_model import CHANNELS, DELAYS, FIELDS, KINDS, LENGTH, PULSES
 from image_model import settings_of, settings_verdict, write_verdict, written_image
 
@@ -139,18 +138,5 @@ def line_of(name, length, changes):
     return f"{name} 0 0 changed {beside} {written_image(settings).hex()}"
 
 
-def main(arguments):
-    every = arguments[:1] == ["--all"]
-    folders = arguments[1:] if every else arguments
-    if len(folders) != 1:
-        sys.exit(__doc__)
-    cases = list(all_cases() if every else chosen_cases())
-    assert len({name for name, length, changes in cases}) == len(cases)
-    folder = pathlib.Path(folders[0])
-    folder.mkdir(parents=True, exist_ok=True)
-    (folder / "stdin").write_bytes(b"".join(row_of(*one) for one in cases))
-    (folder / "stdout").write_text("".join(line_of(*one) + "\n" for one in cases) + f"rows {len(cases)}\n")
-
-
 if __name__ == "__main__":
-    main(sys.argv[1:])
+    vectors.write(__doc__, chosen_cases, all_cases, lambda one: row_of(*one), lambda one: [line_of(*one)], named=True)
