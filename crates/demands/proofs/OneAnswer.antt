@@ -21,7 +21,7 @@ use Rattle.sheets.specs.Sheets.{sheetVerdict}
 use Rattle.engine.specs.Engine.{tableTicked, tableShown, sheetTicked, sheetShown}
 use Rattle.engine.specs.declared.answer.Ticked.{Ticked}
 use Rattle.translator.specs.Translation.{translation, translated}
-use Rattle.translator.specs.declared.translate.Translation.{Translation}
+use Rattle.translator.specs.declared.writer.Translation.{Translation}
 
 -- What a promise fixes by a definition is one value.
 same {ℓ} : {A : Type ℓ} {one other answer : A} → one ≡ answer → other ≡ answer → one ≡ other
@@ -101,9 +101,9 @@ tick-sheet sheet state word one other = same
 pub show-sheet : (sheet : List ℕ) (state : State) (one other : Ticked) → one ≡ sheetShown sheet state → other ≡ sheetShown sheet state → one ≡ other
 show-sheet sheet state one other = same
 
--- translator::translate_sheet: the answer, and the buffer
-pub translate-sheet : (sheet buffer : List ℕ) (one other : Translation) (left left′ : List ℕ)
+-- translator::translate: the answer, and the buffer
+pub translate : (sheet buffer : List ℕ) (one other : Translation) (left left′ : List ℕ)
     → one ≡ translation sheet buffer → other ≡ translation sheet buffer
     → left ≡ translated sheet buffer → left′ ≡ translated sheet buffer
     → (one ≡ other) × (left ≡ left′)
-translate-sheet sheet buffer one other left left′ p q b c = (same p q, same b c)
+translate sheet buffer one other left left′ p q b c = (same p q, same b c)

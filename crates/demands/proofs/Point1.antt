@@ -99,7 +99,7 @@ pub write-cell-refused : (cell : Node) (part : List ℕ) → ¬ (partVerdict par
 unfolding cellWritten
 write-cell-refused cell part h = rw (ne-eqb (partVerdict part .number) 0 h)
 
--- translator::translate_sheet
+-- translator::translate
 pub translate-refused : (sheet buffer : List ℕ) → ¬ (translationVerdict sheet (length buffer) .number ≡ 0)
     → (translation sheet buffer ≡ record { number = translationVerdict sheet (length buffer) .number; place = translationVerdict sheet (length buffer) .place; cells = 0 })
     × (translated sheet buffer ≡ buffer)

@@ -43,6 +43,11 @@ pub state-kept : (settings : Settings) (frame : List ℕ) (bank : Bank) → sett
     → bankVerdict settings (bankAfter settings frame bank) ≡ accepted
 state-kept = state.state-kept
 
+-- The bank that an accepted call answers is accepted again.
+pub accepted-again : (n : ℕ) (settings : Settings) (bank : Bank) (frames : List ℕ) → detectedOver n settings bank frames .number ≡ 0
+    → bankVerdict settings (detectedOver n settings bank frames .bank) ≡ accepted
+accepted-again = calls.accepted-again
+
 -- So a run from the start is never refused 8.
 pub never-unreachable : (settings : Settings) (frames : List ℕ) (n : ℕ) → settingsVerdict settings .number ≡ 0 → (m : ℕ) (more : List ℕ)
     → ¬ (detectedOver m settings (bankAt settings frames startBank n) more .number ≡ unreachable)

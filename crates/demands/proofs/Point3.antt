@@ -1,5 +1,5 @@
 -- The third point: a sheet is translated by the paper's rule unless the paper names the reason, and the table runs as the sheet runs.
--- `translation` is what `translator::translate_sheet` answers and `translated` what it leaves in the buffer; `sheetRun` and `tableRun` are what the
+-- `translation` is what `translator::translate` answers and `translated` what it leaves in the buffer; `sheetRun` and `tableRun` are what the
 -- engine's calls answer at the start and after every tick. Assumes nothing.
 use Prim.Native.Nat.{ℕ, _+_, _*_, _/_, _≤_, _<_, max}
 use mathlib.Core.Path.{_≡_}
@@ -14,7 +14,7 @@ use Rattle.records.specs.declared.verdict.Verdict.{Verdict}
 use Rattle.records.proofs.Every.{Every}
 use Rattle.records.proofs.TagLaws as tag-laws
 use Rattle.machine.specs.declared.state.State.{State}
-use Rattle.tables.specs.Tables.{cellAt, tableVerdict}
+use Rattle.tables.specs.Tables.{cellAt, cellCount, cellVerdict, tableVerdict}
 use Rattle.sheets.specs.Sheets.{stepAt, stepCount, sheetVerdict}
 use Rattle.sheets.proofs.AcceptedSheet.{AcceptedSheet}
 use Rattle.sheets.proofs.AcceptedSheet as sheets
@@ -23,7 +23,7 @@ use Rattle.engine.specs.Runs.{sheetRun, tableRun}
 use Rattle.translator.specs.Translation.{cellsOf, firstCell, cellTotal, cutAt, tableOf, translation, translated}
 use Rattle.translator.proofs.CellCounts.{sum}
 use Rattle.translator.proofs.CellCounts as counts
-use Rattle.translation_laws.proofs.AcceptedTable.{AcceptedTable}
+use Rattle.translation_laws.proofs.AcceptedTable.{AcceptedCell, AcceptedTable}
 use Rattle.translation_laws.proofs.AcceptedTable as tables
 use Rattle.translation_laws.proofs.RefusedSheet as refused-sheets
 use Rattle.translation_laws.proofs.RefusedTable as refused-tables
@@ -100,6 +100,10 @@ translated-passes = translated-tables.translated-passes
 -- The whole-table verdict accepts exactly the tables that the paper's rules allow, and refuses by the first test that fails, at the lowest cell.
 pub table-accepted : (table : List ℕ) → (tableVerdict table .number ≡ 0) ↔ AcceptedTable table
 table-accepted = tables.table-accepted
+
+-- So does the verdict of one cell.
+pub cell-accepted : (table : List ℕ) (k : ℕ) → (cellVerdict table k .number ≡ 0) ↔ AcceptedCell (cellCount table) (cellAt table k)
+cell-accepted = tables.verdict-accepted
 
 pub table-refused : (table : List ℕ) {v : Verdict} → refused-tables.Refused table v → tableVerdict table ≡ v
 table-refused = refused-tables.refused-shows

@@ -25,7 +25,7 @@ struct Run {
 
 pub(crate) fn test_run(name: Line, sheet: &[u8], stretches: [u8; 1020], count: u8) {
     let mut table = [0u8; 756];
-    let translation = translator::translate_sheet(sheet, &mut table);
+    let translation = translator::translate(sheet, &mut table);
     let cells = translation.cells as usize;
     if translation.number != 0 || cells > 63 {
         print(name.word(b" is not translated\n"));

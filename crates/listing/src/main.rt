@@ -14,7 +14,7 @@ fn main() {
     let mut sheet = [0u8; 1009];
     let count = console::receive(&mut sheet);
     let mut table = [0u8; 756];
-    let translation = translator::translate_sheet(&sheet[..count], &mut table);
+    let translation = translator::translate(&sheet[..count], &mut table);
     if translation.number != 0 {
         print(console::refusal(translation.number, translation.place));
         return;

@@ -82,7 +82,7 @@ fn test_sheet(name: Line, sheet: [u8; 1040], length: usize, room: usize)
     requires { ⌜ room ≤ 800 ⌝ }
 {
     let mut table = buffer::pattern();
-    let translation = translator::translate_sheet(&sheet[0..length], &mut table[0..room]);
+    let translation = translator::translate(&sheet[0..length], &mut table[0..room]);
     let verdict = sheets::sheet_verdict(&sheet[0..length]);
     let kept = buffer::is_kept_beyond(table, translation.cells);
     let line = translation_items(name, translation, kept).word(b" sheet");

@@ -19,7 +19,7 @@ use Rattle.sheets.specs.Sheets.{stepCount, sheetTests, sheetVerdict}
 use Rattle.translation_laws.proofs.RefusedSheet as sheets
 use Rattle.sheets.proofs.AcceptedSheet.{AcceptedSheet, sheet-accepted}
 use Rattle.translator.specs.Translation.{cellsOf, firstCell, cellTotal, cutAt, tableOf, translationVerdict, translation, translated}
-use Rattle.translator.specs.declared.translate.Translation.{Translation}
+use Rattle.translator.specs.declared.writer.Translation.{Translation}
 use Rattle.translator.proofs.CutBytes.{table-length, table-cell}
 
 -- ---- the verdict

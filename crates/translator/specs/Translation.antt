@@ -11,7 +11,7 @@ use Rattle.records.specs.declared.verdict.Verdict.{Verdict}
 use Rattle.machine.specs.declared.node.Node.{Node}
 use Rattle.tables.specs.Tables.{cellBytes}
 use Rattle.sheets.specs.Sheets.{sheetTests, stepCount, stepAt, nodeAt}
-use Rattle.translator.specs.declared.translate.Translation.{Translation}
+use Rattle.translator.specs.declared.writer.Translation.{Translation}
 
 -- ---- how many cells, and where they stand
 

@@ -1,7 +1,7 @@
 // The translator: from a sheet to the table that runs as the sheet runs.
 mod cells;
 mod cut;
-mod translate;
+mod writer;
 
-pub use translate::Translation;
-pub use translate::translate_sheet;
+pub use writer::Translation;
+pub use writer::translate;

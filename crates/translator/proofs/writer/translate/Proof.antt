@@ -1,4 +1,4 @@
--- `translator::translate::translate_sheet` meets its contract: a refusal comes before any byte is written; an accepted sheet passes all tests. Assumes nothing.
+-- `translator::writer::translate` meets its contract: a refusal comes before any byte is written; an accepted sheet passes all tests. Assumes nothing.
 use mathlib.Core.Path.{_≡_, ap, sym, _∙_}
 use native.Mathlib.Omega.{arith}
 use lib.ListN.{length}
@@ -7,8 +7,8 @@ use borrow.Author.Needs.{needs}
 use Rattle.records.specs.declared.verdict.Verdict.{Verdict}
 use Rattle.translator.specs.Translation.{firstCell, cellTotal}
 use Rattle.translator.proofs.VerdictLaws.{Accepted, accepted-all, answer-refused, answer-accepted}
-use Rattle.translator.proofs.translate.translate_sheet.Statement.{statement}
-use Rattle.translator.proofs.translate.translate_sheet.Tie as tie
+use Rattle.translator.proofs.writer.translate.Statement.{statement}
+use Rattle.translator.proofs.writer.translate.Tie as tie
 
 -- every test has passed
 accepted-of : (c : tie.Else1) → Accepted (now (c .before .before .before .before .before .args .sheet)) (length (now (c .before .before .before .before .before .args .table)))
@@ -47,8 +47,8 @@ returns-2 c =
     let found = c .before .before .before .before .before .before in
     answer-accepted _ _ (found .before .before .translation-verdict .ensures) _ _ (found .if1 .left) (total-of c) (c .before .before .before .before .write-steps .ensures)
 
-pub translate-sheet-spec : {M : Type 1} → statement M
-translate-sheet-spec =
+pub translate-spec : {M : Type 1} → statement M
+translate-spec =
     tie.close
     (tie.spec
     translation-verdict-requires

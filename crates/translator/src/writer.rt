@@ -26,7 +26,7 @@ pub struct Translation {
 }
 
 // Translates a sheet into the lent table. Bytes beyond the cells stay; a refusal leaves every byte.
-pub fn translate_sheet(sheet: &[u8], table: &mut [u8]) -> Translation
+pub fn translate(sheet: &[u8], table: &mut [u8]) -> Translation
     ensures { λ r. ⌜ r ≡ translation (now (sheet .entry)) (now (table .entry)) ⌝ }
     ensures { λ _. ⌜ now (table .exit) ≡ translated (now (sheet .entry)) (now (table .entry)) ⌝ }
 {

@@ -1,4 +1,4 @@
--- `translator::translate::write_steps` meets its contract. The invariant: the cells of the first i steps are written, and the bytes after them stay.
+-- `translator::writer::write_steps` meets its contract. The invariant: the cells of the first i steps are written, and the bytes after them stay.
 -- Assumes nothing.
 use Prim.Native.Nat.{_-_, _≤_, _<_}
 use mathlib.Core.Path.{_≡_, ap, _∙_}
@@ -11,8 +11,8 @@ use Rattle.sheets.proofs.SearchLaws.{few-steps}
 use Rattle.translator.specs.Translation.{cellsFor, cellsOf}
 use Rattle.translator.proofs.CutFits.{step-within}
 use Rattle.translator.proofs.WriteLaws.{StepsWritten, steps-none, steps-more, steps-all}
-use Rattle.translator.proofs.translate.write_steps.Statement.{statement}
-use Rattle.translator.proofs.translate.write_steps.Tie as tie
+use Rattle.translator.proofs.writer.write_steps.Statement.{statement}
+use Rattle.translator.proofs.writer.write_steps.Tie as tie
 
 abbrev Inv-loop : tie.InvT-loop
 Inv-loop sheet table₀ steps first₀ i₀ table first i = StepsWritten sheet table₀ i first table × (steps ≡ stepCount sheet) × (i ≤ steps)

@@ -1,4 +1,4 @@
--- `translator::translate::write_step` meets its contract. The invariant: j cells of the step are written, and the bytes before and after them stay.
+-- `translator::writer::write_step` meets its contract. The invariant: j cells of the step are written, and the bytes before and after them stay.
 -- Assumes nothing.
 use Prim.Native.Nat.{_+_, _-_, _*_, _≤_, _<_}
 use mathlib.Core.Path.{_≡_}
@@ -8,8 +8,8 @@ use denote.Ref.{now}
 use borrow.Author.Needs.{needs}
 use Rattle.translator.proofs.CutFits.{step-within}
 use Rattle.translator.proofs.WriteLaws.{CellsWritten, cells-none, cells-more, cells-all}
-use Rattle.translator.proofs.translate.write_step.Statement.{statement}
-use Rattle.translator.proofs.translate.write_step.Tie as tie
+use Rattle.translator.proofs.writer.write_step.Statement.{statement}
+use Rattle.translator.proofs.writer.write_step.Tie as tie
 
 abbrev Inv-loop : tie.InvT-loop
 Inv-loop sheet i first cells table₀ j₀ table j = CellsWritten sheet table₀ i first j table × (j ≤ cells)

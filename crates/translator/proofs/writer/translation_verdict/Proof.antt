@@ -1,4 +1,4 @@
--- `translator::translate::translation_verdict` meets its contract: each return shows the first test that refuses. Assumes nothing.
+-- `translator::writer::translation_verdict` meets its contract: each return shows the first test that refuses. Assumes nothing.
 use Prim.Native.Nat.{ℕ, _*_, _≤_, _<_}
 use mathlib.Core.Path.{_≡_, refl, ap, sym, _∙_}
 use native.Mathlib.Omega.{arith}
@@ -11,8 +11,8 @@ use Rattle.records.proofs.ReturnLaws.{verdict-refuses, verdict-passes, test-ref
 use Rattle.records.specs.Verdicts.{refusedUnless}
 use Rattle.translator.specs.Translation.{firstCell, cellTotal}
 use Rattle.translator.proofs.VerdictLaws.{in-order}
-use Rattle.translator.proofs.translate.translation_verdict.Statement.{statement}
-use Rattle.translator.proofs.translate.translation_verdict.Tie as tie
+use Rattle.translator.proofs.writer.translation_verdict.Statement.{statement}
+use Rattle.translator.proofs.writer.translation_verdict.Tie as tie
 
 total-of : (c : tie.After-first-cell) → c .first-cell .result ≡ cellTotal (now (c .before .before .before .before .before .before .args .sheet))
 unfolding cellTotal
