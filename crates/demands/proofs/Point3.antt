@@ -6,7 +6,7 @@ use mathlib.Core.Path.{_≡_}
 use mathlib.Core.List.{List}
 use mathlib.Core.Bool.{true, false}
 use mathlib.Core.Logic.{_↔_}
-use lib.ListN.{length, take, drop}
+use lib.ListN.{length, getD, take, drop}
 use Rattle.records.specs.Lists.{each}
 use Rattle.records.specs.Verdicts.{accepted}
 use Rattle.records.specs.Tags.{tagAt, repeats, lookUp}
@@ -33,6 +33,7 @@ use Rattle.translation_laws.proofs.TranslatedTable as translated-tables
 use Rattle.translation_laws.proofs.StateKept as state-kept
 use Rattle.translation_laws.proofs.ThirdPoint.{SameRun}
 use Rattle.translation_laws.proofs.ThirdPoint as third
+use Rattle.translation_laws.proofs.WholeTags as whole-tags
 
 -- ---- the third point
 
@@ -136,3 +137,11 @@ look-up-lowest = tag-laws.lookUp-first
 pub look-up-inverse : (w : ℕ) (bytes : List ℕ) (n : ℕ) → ((j : ℕ) → j < n → repeats w bytes j ≡ false)
     → (k : ℕ) → k < n → lookUp w bytes n (tagAt w bytes k) ≡ k
 look-up-inverse = tag-laws.lookUp-tagAt
+
+-- Tags are whole numbers of sixteen bits: two records have one tag exactly when both its bytes are the same.
+pub tag-range : (w : ℕ) (bytes : List ℕ) → Every (λ byte. byte < 256) bytes → (k : ℕ) → tagAt w bytes k < 65536
+tag-range = whole-tags.tag-lt
+
+pub same-tag : (w : ℕ) (bytes : List ℕ) → Every (λ byte. byte < 256) bytes → (i j : ℕ)
+    → (tagAt w bytes i ≡ tagAt w bytes j) ↔ ((getD bytes (w * i) 0 ≡ getD bytes (w * j) 0) × (getD bytes (w * i + 1) 0 ≡ getD bytes (w * j + 1) 0))
+same-tag = whole-tags.same-tag

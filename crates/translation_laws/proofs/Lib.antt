@@ -6,3 +6,4 @@ pub mod Simulation
 pub mod TranslatedTable
 pub mod TranslationLaws
 pub mod ThirdPoint
+pub mod WholeTags
