@@ -4,7 +4,7 @@ use mathlib.Core.Path.{_≡_, sym, _∙_}
 use mathlib.Core.List.{List}
 use Rattle.records.specs.declared.verdict.Verdict.{Verdict}
 use Rattle.image.specs.Reading.{reading}
-use Rattle.image.specs.Writing.{settingsVerdict, writeVerdict, written, blankImage}
+use Rattle.writing.specs.Writing.{settingsVerdict, writeVerdict, written, blankImage}
 use Rattle.image.specs.declared.reader.Reading.{Reading}
 use Rattle.image.specs.declared.settings.Settings.{Settings}
 use Rattle.detectors.specs.Bank.{startBank}
@@ -31,18 +31,18 @@ same p q = p ∙ sym q
 pub read : (image : List ℕ) (one other : Reading) → one ≡ reading image → other ≡ reading image → one ≡ other
 read image one other = same
 
--- image::write: the answer, and the buffer
+-- writing::write: the answer, and the buffer
 pub write : (settings : Settings) (buffer : List ℕ) (one other : Verdict) (left left′ : List ℕ)
     → one ≡ writeVerdict settings buffer → other ≡ writeVerdict settings buffer
     → left ≡ written settings buffer → left′ ≡ written settings buffer
     → (one ≡ other) × (left ≡ left′)
 write settings buffer one other left left′ p q b c = (same p q, same b c)
 
--- image::settings_verdict
+-- writing::settings_verdict
 pub settings-verdict : (settings : Settings) (one other : Verdict) → one ≡ settingsVerdict settings → other ≡ settingsVerdict settings → one ≡ other
 settings-verdict settings one other = same
 
--- image::blank
+-- writing::blank
 pub blank : (one other : List ℕ) → one ≡ blankImage → other ≡ blankImage → one ≡ other
 blank one other = same
 

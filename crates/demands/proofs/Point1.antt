@@ -8,7 +8,7 @@ use borrow.Author.Tests.{ne-eqb}
 use Rattle.records.specs.Verdicts.{firstRefusal}
 use Rattle.records.specs.declared.verdict.Verdict.{Verdict}
 use Rattle.image.specs.Reading.{imageVerdict, zeroSettings, reading}
-use Rattle.image.specs.Writing.{writeVerdict, written}
+use Rattle.writing.specs.Writing.{writeVerdict, written}
 use Rattle.image.specs.declared.settings.Settings.{Settings}
 use Rattle.detectors.specs.Tick.{framesVerdict, detectedOver, ticked, engineTicked}
 use Rattle.detectors.specs.declared.bank.Bank.{Bank}
@@ -27,7 +27,7 @@ pub read-refused : (image : List ℕ) → ¬ (imageVerdict image .number ≡ 0)
     → reading image ≡ record { number = imageVerdict image .number; place = imageVerdict image .place; settings = zeroSettings }
 read-refused = images.reading-refused
 
--- image::write
+-- writing::write
 pub write-refused : (settings : Settings) (buffer : List ℕ) → ¬ (writeVerdict settings buffer .number ≡ 0) → written settings buffer ≡ buffer
 write-refused = images.written-refused
 

@@ -7,7 +7,7 @@ use mathlib.Core.Logic.{_↔_}
 use Rattle.records.specs.Numbers.{unreachable}
 use Rattle.records.specs.Verdicts.{accepted}
 use Rattle.image.specs.Reading.{groupAt}
-use Rattle.image.specs.Writing.{settingsVerdict}
+use Rattle.writing.specs.Writing.{settingsVerdict}
 use Rattle.image.specs.declared.settings.Settings.{Settings}
 use Rattle.detectors.specs.Bank.{startBank, bankAfter, bankVerdict, channelAt}
 use Rattle.detectors.specs.Tick.{frameAt, bankAt, framesVerdict, detectedOver, ticked, engineTicked}

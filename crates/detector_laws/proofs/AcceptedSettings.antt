@@ -11,7 +11,7 @@ use lib.ListN.{length, getD}
 use Rattle.records.specs.Verdicts.{refusedUnless}
 use Rattle.image.specs.Codes.{codeNumber, pulses}
 use Rattle.image.specs.Reading.{groupAt, noLogic}
-use Rattle.image.specs.Writing.{settingByte, settingsVerdict, codeVerdict, groupBytes, logicByte, pinLogicByte, hasLogic}
+use Rattle.writing.specs.Writing.{settingByte, settingsVerdict, codeVerdict, groupBytes, logicByte, pinLogicByte, hasLogic}
 use Rattle.image.specs.declared.settings.Logic.{Logic}
 use Rattle.image.specs.declared.settings.Settings.{Settings}
 use Rattle.detectors.specs.Channel.{ticks}

@@ -10,7 +10,7 @@ use Rattle.records.specs.Lists.{each}
 use Rattle.records.specs.Numbers.{unreachable}
 use Rattle.records.specs.Verdicts.{accepted}
 use Rattle.records.proofs.WordLaws.{wordOf-lt}
-use Rattle.image.specs.Writing.{settingsVerdict}
+use Rattle.writing.specs.Writing.{settingsVerdict}
 use Rattle.image.specs.declared.settings.Settings.{Settings}
 use Rattle.detectors.specs.Bank.{faultsOf, warningsOf, bankVerdict, startBank}
 use Rattle.detectors.specs.Tick.{frameAt, bankAt, Words, wordsAt, wordsOver, trace, levelsVerdict, framesVerdict, detectedOver, ticked, engineTicked}

@@ -12,7 +12,7 @@ use Rattle.records.specs.Numbers.{wrong-length, bad-word}
 use Rattle.records.specs.Verdicts.{accepted, refusedUnless, orElse, firstRefusal}
 use Rattle.records.specs.declared.verdict.Verdict.{Verdict}
 use Rattle.records.proofs.VerdictLaws.{orElse-pass, orElse-hit, first-accepted, Passes, passes-accepted, accepted-passes, FirstAt, first-shows, shows-first}
-use Rattle.image.specs.Writing.{settingsVerdict}
+use Rattle.writing.specs.Writing.{settingsVerdict}
 use Rattle.image.specs.declared.settings.Settings.{Settings}
 use Rattle.detectors.specs.Bank.{bankVerdict}
 use Rattle.detectors.specs.Tick.{frameAt, bankAt, wordsOver, trace, levelsInRange, levelsVerdict, framesVerdict, detected, detectedOver}

@@ -14,7 +14,7 @@ use image::Settings;
 use libc::STDIN_FILENO;
 
 pub(crate) fn read_image(count: u8) -> Settings {
-    let mut bytes = image::blank();
+    let mut bytes = writing::blank();
     let mut i = 0;
     while i < count {
         let mut set = [0u8; 2];

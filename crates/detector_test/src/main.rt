@@ -41,7 +41,7 @@ const CHANNELS: usize = 30;
 const LENT: usize = 31;
 
 fn main() {
-    let blank = image::blank();
+    let blank = writing::blank();
     let reading = image::read(&blank);
     let settings = reading.settings;
     let mut rows = 0;

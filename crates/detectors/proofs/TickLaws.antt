@@ -20,7 +20,7 @@ use Rattle.records.proofs.ListLaws.{getD-default, each-at, each-length, each-ex
 use Rattle.records.proofs.VerdictLaws.{orElse-pass, orElse-end, first-accepted}
 use Rattle.records.proofs.WordLaws.{wordOf-ext}
 use Rattle.image.specs.Reading.{groupAt, zeroGroup}
-use Rattle.image.specs.Writing.{settingsVerdict}
+use Rattle.writing.specs.Writing.{settingsVerdict}
 use Rattle.image.specs.declared.settings.Group.{Group}
 use Rattle.image.specs.declared.settings.Settings.{Settings}
 use Rattle.detectors.specs.Channel.{channelAfter, faultBit, warningBit, startChannel}

@@ -8,7 +8,7 @@ use Rattle.records.specs.Lists.{each}
 use Rattle.records.specs.Numbers.{wrong-length, bad-word}
 use Rattle.records.specs.Verdicts.{refusedUnless, firstRefusal}
 use Rattle.records.specs.declared.verdict.Verdict.{Verdict}
-use Rattle.image.specs.Writing.{settingsVerdict}
+use Rattle.writing.specs.Writing.{settingsVerdict}
 use Rattle.image.specs.declared.settings.Settings.{Settings}
 use Rattle.detectors.specs.Bank.{bankAfter, faultsOf, warningsOf, bankVerdict}
 use Rattle.detectors.specs.declared.bank.Bank.{Bank}

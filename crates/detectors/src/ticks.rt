@@ -74,7 +74,7 @@ fn frames_verdict(settings: Settings, bank: Bank, frames: &[u8], n: usize) -> Ve
     }
     let levels = levels_verdict(frames, n);
     let state = bank::bank_verdict(settings, bank);
-    let means = image::settings_verdict(settings);
+    let means = writing::settings_verdict(settings);
     or_else(means, or_else(state, levels))
 }
 

@@ -1,3 +1,2 @@
-pub mod CodeLaws
+pub mod SettingsLaws
 pub mod ReadingLaws
-pub mod WritingLaws

@@ -1,14 +1,12 @@
-// From a code to its meaning, and from a meaning to its lowest code.
+// From a code to its meaning.
 use crate::settings::FaultType;
 use crate::settings::Input;
 use crate::settings::Pull;
 use crate::settings::Source;
-ghost use Prim.Native.Nat.{_≤_, _<_};
+ghost use Prim.Native.Nat.{_<_};
 ghost use mathlib.Core.Path.{_≡_};
-ghost use mathlib.Core.Bool.{cond};
-ghost use lib.ListN.{length, getD};
-ghost use Rattle.image.specs.Codes.{times, pulses, faultTypes, sources, pulls, faultCode, sourceCode, pullCode};
-ghost use Rattle.image.specs.Codes.{lookup as Codes·lookup, inputCode};
+ghost use lib.ListN.{getD};
+ghost use Rattle.image.specs.Codes.{times, pulses, faultTypes, sources, pulls};
 ghost use Rattle.image.specs.Reading.{inputOf};
 ghost use Rattle.image.specs.declared.settings.FaultType.the-variants.{Over};
 ghost use Rattle.image.specs.declared.settings.Source.the-variants.{Disabled};
@@ -20,9 +18,9 @@ pub enum Code {
     Lacking,
 }
 
-const TIMES: [u16; 8] = [0, 5, 10, 20, 30, 50, 75, 100];
+pub const TIMES: [u16; 8] = [0, 5, 10, 20, 30, 50, 75, 100];
 
-const PULSES: [u16; 4] = [10, 100, 1000, 10000];
+pub const PULSES: [u16; 4] = [10, 100, 1000, 10000];
 
 const FAULT_TYPES: [FaultType; 4] = [
     FaultType::Over,
@@ -123,99 +121,4 @@ pub(crate) fn input(k: usize, byte: u8) -> Input
         return HIGH_RANGES[records::field(byte, 0, 1) as usize];
     }
     FUNCTIONS[records::field(byte, 0, 2) as usize]
-}
-
-pub(crate) fn time_code(time: u16) -> Code
-    ensures { λ r. ⌜ r ≡ Codes·lookup times time ⌝ }
-{
-    lookup(&TIMES, time)
-}
-
-pub(crate) fn pulse_code(pulse: u16) -> Code
-    ensures { λ r. ⌜ r ≡ Codes·lookup pulses pulse ⌝ }
-{
-    lookup(&PULSES, pulse)
-}
-
-// The lowest place at which a table has the value.
-fn lookup(table: &[u16], value: u16) -> Code
-    requires { ⌜ length (now table) ≤ 256 ⌝ }
-    ensures { λ r. ⌜ r ≡ Codes·lookup (now (table .entry)) value ⌝ }
-{
-    let mut i = 0;
-    while i < table.len() {
-        if table[i] == value {
-            return Code::Is(i as u8);
-        }
-        i += 1;
-    }
-    Code::Lacking
-}
-
-pub(crate) fn fault_code(faults: FaultType) -> u8
-    ensures { λ r. ⌜ r ≡ faultCode faults ⌝ }
-{
-    match faults {
-        FaultType::Over => 0,
-        FaultType::UnderOrOver => 1,
-        FaultType::Under => 2,
-        FaultType::Off => 3,
-    }
-}
-
-pub(crate) fn source_code(source: Source) -> u8
-    ensures { λ r. ⌜ r ≡ sourceCode source ⌝ }
-{
-    match source {
-        Source::Disabled => 0,
-        Source::Engine => 1,
-        Source::DrivenLow => 2,
-        Source::DrivenHigh => 3,
-    }
-}
-
-pub(crate) fn pull_code(pull: Pull) -> u8
-    ensures { λ r. ⌜ r ≡ pullCode pull ⌝ }
-{
-    match pull {
-        Pull::Unpulled => 0,
-        Pull::Vddcap300k => 2,
-        Pull::WeakVp1 => 4,
-        Pull::PushPullVp1 => 5,
-        Pull::WeakVp2 => 6,
-        Pull::PushPullVp2 => 7,
-        Pull::WeakVp3 => 8,
-        Pull::PushPullVp3 => 9,
-        Pull::WeakVp4 => 10,
-        Pull::PushPullVp4 => 11,
-        Pull::WeakVddcap => 14,
-        Pull::PushPullVddcap => 15,
-    }
-}
-
-// The code of a kind of input in its own group's table.
-pub(crate) fn input_code(k: usize, input: Input) -> Code
-    ensures { λ r. ⌜ r ≡ inputCode k input ⌝ }
-{
-    match input {
-        Input::VpMid => code_if(k < 4, 0),
-        Input::VpLow => code_if(k < 4, 1),
-        Input::VpUltralow => code_if(k < 4, 2),
-        Input::VhLow => code_if(k == 4, 0),
-        Input::VhHigh => code_if(k == 4, 1),
-        Input::AnalogFault => code_if(k >= 5, 0),
-        Input::LogicFault => code_if(k >= 5, 1),
-        Input::LogicFaultAnalogWarning => code_if(k >= 5, 2),
-        Input::NoFunction => code_if(k >= 5, 3),
-    }
-}
-
-fn code_if(listed: bool, code: u8) -> Code
-    ensures { λ r. ⌜ r ≡ cond listed (Code.Is code) Code.Lacking ⌝ }
-{
-    if listed {
-        Code::Is(code)
-    } else {
-        Code::Lacking
-    }
 }

@@ -13,7 +13,7 @@ use Rattle.records.specs.Lists.{each}
 use Rattle.records.specs.Numbers.{wrong-length, reserved, unprinted, out-of-range}
 use Rattle.records.specs.Verdicts.{accepted, refusedUnless, orElse, firstRefusal}
 use Rattle.image.specs.Reading.{addressVerdict, imageVerdict}
-use Rattle.image.specs.Writing.{settingByte, settingsVerdict, writeVerdict}
+use Rattle.writing.specs.Writing.{settingByte, settingsVerdict, writeVerdict}
 use Rattle.image.specs.declared.settings.Settings.{Settings}
 use Rattle.image_laws.proofs.Conditions.{usableAt, printedAt, GoodBelow, Reached, ImageAnswer, MeantBelow, LowestLacking, SettingsAnswer}
 use Rattle.image_laws.proofs.AcceptanceLaws.{unlike, good-passes, bit-refused, code-refused, passes-good, Refused, refused-number, refused-bit, refused-code, another-length, of-eighty, eighty-of, reached-refused, refused-reached, refused-at, meant-passes, passes-meant, tests, lacking-shows, shows-lacking}

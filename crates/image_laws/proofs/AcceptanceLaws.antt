@@ -13,7 +13,7 @@ use Rattle.records.specs.Numbers.{wrong-length, reserved, unprinted, out-of-ran
 use Rattle.records.specs.Verdicts.{orElse, firstRefusal}
 use Rattle.records.specs.declared.verdict.Verdict.{Verdict}
 use Rattle.image.specs.Reading.{usable, printed, byteVerdict, addressVerdict, imageVerdict}
-use Rattle.image.specs.Writing.{settingByte, codeVerdict, settingsVerdict}
+use Rattle.writing.specs.Writing.{settingByte, codeVerdict, settingsVerdict}
 use Rattle.image.specs.declared.codes.Code.{Code}
 use Rattle.image.specs.declared.codes.Code.the-variants.{Is, Lacking}
 use Rattle.image.specs.declared.settings.Settings.{Settings}

@@ -8,7 +8,7 @@ use Rattle.records.specs.Numbers.{wrong-length, reserved, unprinted, out-of-ran
 use Rattle.records.specs.Verdicts.{accepted}
 use Rattle.records.specs.declared.verdict.Verdict.{Verdict}
 use Rattle.image.specs.Reading.{usable, printed, groupAt}
-use Rattle.image.specs.Writing.{settingByte}
+use Rattle.writing.specs.Writing.{settingByte}
 use Rattle.image.specs.declared.codes.Code.the-variants.{Lacking}
 use Rattle.image.specs.declared.settings.Settings.{Settings}
 

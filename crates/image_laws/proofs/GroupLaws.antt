@@ -8,7 +8,7 @@ use borrow.Author.Tests.{lt-ltb, le-ltb, le-leb, lt-leb, eq-eqb, ne-eqb, ltb-tru
 use Rattle.image.specs.Groups.{isVP, isVH, isVX}
 use Rattle.image.specs.Codes.{inputCode}
 use Rattle.image.specs.Reading.{reservedFrom, inputOf, logicOf}
-use Rattle.image.specs.Writing.{logicByte}
+use Rattle.writing.specs.Writing.{logicByte}
 use Rattle.image.specs.Normal.{normalByte, rangeTwice}
 use Rattle.image.specs.declared.settings.Input.{Input}
 use Rattle.image.specs.declared.settings.Input.the-variants.{VpMid, VpLow, VpUltralow, VhLow, VhHigh, AnalogFault, LogicFault, LogicFaultAnalogWarning, NoFunction}

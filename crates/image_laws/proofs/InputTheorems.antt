@@ -8,7 +8,7 @@ use lib.ListN.{replicate}
 use lib.Dec.{lit<}
 use Rattle.image.specs.Codes.{codeValue, inputCode}
 use Rattle.image.specs.Reading.{usable, printed, inputOf, groupOf}
-use Rattle.image.specs.Writing.{groupBytes}
+use Rattle.writing.specs.Writing.{groupBytes}
 use Rattle.image.specs.Normal.{normalByte}
 use Rattle.image.specs.declared.codes.Code.{Code}
 use Rattle.image.specs.declared.codes.Code.the-variants.{Is, Lacking}

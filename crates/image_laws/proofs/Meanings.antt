@@ -10,7 +10,7 @@ use lib.ListN.{getD, replicate, getD-replicate, List·getD-eq-default}
 use Rattle.records.specs.Verdicts.{accepted}
 use Rattle.image.specs.Codes.{codeValue, lookup, times, faultCode, inputCode}
 use Rattle.image.specs.Reading.{imageVerdict, thresholdOf, groupOf, settingsOf, groupAt}
-use Rattle.image.specs.Writing.{beside, hysteresisByte, timingByte, logicByte, outputByte, groupBytes, settingByte, settingsVerdict, imageOf}
+use Rattle.writing.specs.Writing.{beside, hysteresisByte, timingByte, logicByte, outputByte, groupBytes, settingByte, settingsVerdict, imageOf}
 use Rattle.image.specs.declared.codes.Code.{Code}
 use Rattle.image.specs.declared.codes.Code.the-variants.{Is, Lacking}
 use Rattle.image.specs.declared.settings.FaultType.{FaultType}

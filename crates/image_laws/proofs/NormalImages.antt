@@ -10,7 +10,7 @@ use Rattle.records.specs.Lists.{each}
 use Rattle.records.specs.Verdicts.{accepted}
 use Rattle.records.proofs.ListLaws.{each-at, each-ext}
 use Rattle.image.specs.Reading.{imageVerdict, settingsOf}
-use Rattle.image.specs.Writing.{imageOf}
+use Rattle.writing.specs.Writing.{imageOf}
 use Rattle.image.specs.Normal.{normalByte, normal}
 use Rattle.records.proofs.VerdictLaws.{numberOf}
 use Rattle.image_laws.proofs.Conditions.{Bytes}

@@ -7,7 +7,7 @@ use lib.ListN.{getD, replicate}
 use Rattle.records.specs.Bits.{bits}
 use Rattle.image.specs.Codes.{inputCode}
 use Rattle.image.specs.Reading.{reservedFrom, usable, printed, inputOf, logicOf, outputOf, thresholdOf, groupOf}
-use Rattle.image.specs.Writing.{groupBytes, hysteresisByte, timingByte, logicByte, pinLogicByte, hasLogic, outputByte}
+use Rattle.writing.specs.Writing.{groupBytes, hysteresisByte, timingByte, logicByte, pinLogicByte, hasLogic, outputByte}
 use Rattle.image.specs.Normal.{normalByte, rangeTwice, pullTwice}
 use Rattle.image.specs.declared.codes.Code.{Code}
 use Rattle.image.specs.declared.codes.Code.the-variants.{Is, Lacking}

@@ -11,7 +11,7 @@ use lib.Dec.{eqb}
 use Rattle.records.proofs.ListLaws.{each-length}
 use Rattle.image.specs.Codes.{codeValue}
 use Rattle.image.specs.Reading.{imageVerdict, settingsOf, zeroSettings, reading}
-use Rattle.image.specs.Writing.{settingByte, writeVerdict, imageOf, written}
+use Rattle.writing.specs.Writing.{settingByte, writeVerdict, imageOf, written}
 use Rattle.image.specs.declared.settings.Settings.{Settings}
 use Rattle.records.proofs.VerdictLaws.{numberOf}
 use Rattle.image_laws.proofs.Acceptance.{image-zero, write-wrong-length}

@@ -9,7 +9,7 @@ use Rattle.records.proofs.ListLaws.{each-length, each-ext}
 use Rattle.image.specs.Groups.{part}
 use Rattle.image.specs.Codes.{codeValue}
 use Rattle.image.specs.Reading.{imageVerdict, groupOf, settingsOf, reading}
-use Rattle.image.specs.Writing.{settingByte, settingsVerdict, writeVerdict, imageOf, written}
+use Rattle.writing.specs.Writing.{settingByte, settingsVerdict, writeVerdict, imageOf, written}
 use Rattle.image.specs.Normal.{normalByte, normal}
 use Rattle.image.specs.declared.reader.Reading.{Reading}
 use Rattle.image.specs.declared.settings.Settings.{Settings}

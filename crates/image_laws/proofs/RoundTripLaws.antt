@@ -11,7 +11,7 @@ use Rattle.records.proofs.ListLaws.{each-at, each-length}
 use Rattle.image.specs.Groups.{part}
 use Rattle.image.specs.Codes.{codeValue}
 use Rattle.image.specs.Reading.{imageVerdict, groupOf, settingsOf, zeroGroup, groupAt}
-use Rattle.image.specs.Writing.{groupBytes, settingByte, settingsVerdict, imageOf}
+use Rattle.writing.specs.Writing.{groupBytes, settingByte, settingsVerdict, imageOf}
 use Rattle.image.specs.Normal.{normalByte}
 use Rattle.image.specs.declared.codes.Code.{Code}
 use Rattle.image.specs.declared.codes.Code.the-variants.{Is, Lacking}

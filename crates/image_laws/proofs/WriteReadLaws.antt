@@ -11,7 +11,7 @@ use Rattle.records.specs.Bits.{bits}
 use Rattle.image.specs.Groups.{isVP, isVH, isVX}
 use Rattle.image.specs.Codes.{codeValue, lookup, times, pulses, faultTypes, faultCode, inputCode, sources, sourceCode, sourcePrinted, pulls, pullCode, pullPrinted}
 use Rattle.image.specs.Reading.{reservedFrom, usable, printed, inputOf, noLogic, logicOf, outputOf, thresholdOf, groupOf}
-use Rattle.image.specs.Writing.{beside, flag, groupBytes, hysteresisByte, timingByte, logicByte, pinLogicByte, hasLogic, outputByte}
+use Rattle.writing.specs.Writing.{beside, flag, groupBytes, hysteresisByte, timingByte, logicByte, pinLogicByte, hasLogic, outputByte}
 use Rattle.image.specs.declared.codes.Code.{Code}
 use Rattle.image.specs.declared.codes.Code.the-variants.{Is, Lacking}
 use Rattle.image.specs.declared.settings.FaultType.the-variants.{Over}

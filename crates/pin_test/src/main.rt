@@ -44,7 +44,7 @@ fn drive_row(row: [u8; 15]) -> Driven {
 }
 
 fn image_of(row: [u8; 15]) -> [u8; 80] {
-    let mut bytes = image::blank();
+    let mut bytes = writing::blank();
     let mut k = 0;
     while k < 10 {
         bytes[8 * k + 7] = row[5 + k];

@@ -13,7 +13,7 @@ use Rattle.records.specs.declared.verdict.Verdict.{Verdict}
 use Rattle.records.proofs.ListLaws.{getD-default}
 use Rattle.records.proofs.VerdictLaws.{first-cons, first-one, unless-accepted}
 use Rattle.image.specs.Reading.{groupAt, zeroGroup}
-use Rattle.image.specs.Writing.{settingsVerdict}
+use Rattle.writing.specs.Writing.{settingsVerdict}
 use Rattle.image.specs.declared.settings.Group.{Group}
 use Rattle.image.specs.declared.settings.Settings.{Settings}
 use Rattle.pins.specs.Pins.{drive, pinsOf, pinsVerdict, driven}

@@ -9,7 +9,7 @@ use Rattle.records.specs.Numbers.{bad-word}
 use Rattle.records.specs.Verdicts.{refusedUnless, firstRefusal}
 use Rattle.records.specs.declared.verdict.Verdict.{Verdict}
 use Rattle.image.specs.Reading.{groupAt}
-use Rattle.image.specs.Writing.{settingsVerdict}
+use Rattle.writing.specs.Writing.{settingsVerdict}
 use Rattle.image.specs.declared.settings.Source.{Source}
 use Rattle.image.specs.declared.settings.Source.the-variants.{Disabled, Engine, DrivenLow, DrivenHigh}
 use Rattle.image.specs.declared.settings.Settings.{Settings}

@@ -21,7 +21,7 @@ pub struct Driven {
 pub fn pins(settings: Settings, outputs: u16) -> Driven
     ensures { λ r. ⌜ r ≡ driven settings outputs ⌝ }
 {
-    let means = image::settings_verdict(settings);
+    let means = writing::settings_verdict(settings);
     let verdict = or_else(means, refuse_unless(outputs < 1024, BAD_WORD, 0));
     if verdict.number != 0 {
         return Driven {

@@ -96,7 +96,7 @@ fn read_changed(bytes: &mut [u8], first: Change, second: Change) -> Reading {
 }
 
 fn blank_and_zeros() -> [u8; 256] {
-    let blank = image::blank();
+    let blank = writing::blank();
     let mut bytes = [0u8; 256];
     let mut i = 0;
     while i < 80 {
@@ -142,7 +142,7 @@ fn group_items(line: Line, k: usize, settings: Settings) -> Line
 {
     let groups = settings.groups;
     let mut bytes = [0xAAu8; 80];
-    let verdict = image::write(settings, &mut bytes);
+    let verdict = writing::write(settings, &mut bytes);
     let mut all = line.word(b" group").item(k as u64);
     all = fields::items(all, groups[k]).word(b" written");
     all = verdict_items(all, verdict.number, verdict.place).word(b" ");

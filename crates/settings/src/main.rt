@@ -31,7 +31,7 @@ fn main() {
 fn print_groups(settings: Settings) {
     // Settings that were read are never refused by the writer.
     let mut normal = [0u8; 80];
-    image::write(settings, &mut normal);
+    writing::write(settings, &mut normal);
     let groups = settings.groups;
     let mut k = 0;
     while k < 10 {

@@ -19,7 +19,7 @@ ghost use Prim.Native.Nat.{_≤_};
 const NAME: usize = 47;
 
 fn main() {
-    let blank = image::blank();
+    let blank = writing::blank();
     let reading = image::read(&blank);
     let start = reading.settings;
     let mut rows = 0;
@@ -74,8 +74,8 @@ fn changed_settings(start: Settings, row: [u8; 64]) -> Settings {
 
 fn writing_items(name: Line, settings: Settings, length: u8) -> Line {
     let mut buffer = pattern();
-    let written = image::write(settings, &mut buffer[0..length as usize]);
-    let verdict = image::settings_verdict(settings);
+    let written = writing::write(settings, &mut buffer[0..length as usize]);
+    let verdict = writing::settings_verdict(settings);
     let mut line = verdict_items(name, written.number, written.place);
     line = kept_word(line, is_pattern(buffer)).word(b" settings");
     line = verdict_items(line, verdict.number, verdict.place);

@@ -6,7 +6,7 @@ use native.Mathlib.Omega.{arith}
 use borrow.Author.Needs.{needs}
 use Rattle.records.specs.Words.{wordOf}
 use Rattle.records.proofs.WordLaws.{added-more, added-fits}
-use Rattle.image.proofs.WritingLaws.{ten-groups}
+use Rattle.image.proofs.SettingsLaws.{ten-groups}
 use Rattle.pins.specs.Pins.{pinsOf}
 use Rattle.pins.proofs.PinLaws.{pinAt, pin-here}
 use Rattle.pins.proofs.drive_all.Statement.{statement}

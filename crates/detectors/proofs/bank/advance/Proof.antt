@@ -11,7 +11,7 @@ use Rattle.records.specs.Lists.{each}
 use Rattle.records.specs.Words.{wordOf}
 use Rattle.records.proofs.ListLaws.{filled-more}
 use Rattle.records.proofs.WordLaws.{added-more, added-fits}
-use Rattle.image.proofs.WritingLaws.{ten-groups}
+use Rattle.image.proofs.SettingsLaws.{ten-groups}
 use Rattle.detectors.specs.declared.channel.Ran.{Ran}
 use Rattle.detectors.proofs.BankLaws.{ten-channels}
 use Rattle.detectors.proofs.TickLaws.{ranAt, ran-all, ran-here}

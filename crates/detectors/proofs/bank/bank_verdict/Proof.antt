@@ -7,7 +7,7 @@ use borrow.Author.Needs.{needs}
 use Rattle.records.specs.Lists.{each}
 use Rattle.records.specs.Verdicts.{firstRefusal}
 use Rattle.records.proofs.VerdictLaws.{found-hit, found-pass, search-end}
-use Rattle.image.proofs.WritingLaws.{ten-groups}
+use Rattle.image.proofs.SettingsLaws.{ten-groups}
 use Rattle.detectors.specs.Bank.{bankVerdict}
 use Rattle.detectors.proofs.BankLaws.{ten-channels, channelTest, channel-test}
 use Rattle.detectors.proofs.bank.bank_verdict.Statement.{statement}

@@ -1,0 +1,12 @@
+-- `writing::encoder::refused` meets its contract: the repeated array computes to the definition's eight zeros. Assumes nothing.
+use mathlib.Core.Path.{refl}
+use Rattle.writing.specs.Writing.{refusedAt}
+use Rattle.writing.proofs.encoder.refused.Statement.{statement}
+use Rattle.writing.proofs.encoder.refused.Tie as tie
+
+returns : tie.Need-returns
+unfolding refusedAt
+returns c = refl
+
+pub refused-spec : {M : Type 1} → statement M
+refused-spec = tie.close (tie.spec returns)

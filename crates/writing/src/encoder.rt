@@ -1,0 +1,119 @@
+// The eight bytes that mean one group's settings, by value: everything that can refuse.
+use crate::codes;
+use image::Code;
+use image::Group;
+use image::Logic;
+use image::Output;
+use records::OUT_OF_RANGE;
+use records::join;
+ghost use Prim.Native.Nat.{_<_};
+ghost use mathlib.Core.Path.{_≡_};
+ghost use Rattle.writing.specs.Writing.{encoded, refusedAt, flag, logicByte, pinLogicByte, outputByte};
+
+// The eight bytes, with number 0; or the refusal, with eight zeros.
+pub(crate) struct Encoded {
+    pub number: u8,
+    pub place: usize,
+    pub bytes: [u8; 8],
+}
+
+pub(crate) fn encode(k: usize, group: Group) -> Encoded
+    requires { ⌜ k < 10 ⌝ }
+    ensures { λ r. ⌜ r ≡ encoded k group ⌝ }
+{
+    let over = group.over;
+    let under = group.under;
+    let output = group.output;
+    let input = group.input;
+    let faults = group.faults;
+    let logic = group.logic;
+    if over.hysteresis > 31 {
+        return refused(8 * k + 1);
+    }
+    if under.hysteresis > 31 {
+        return refused(8 * k + 3);
+    }
+    let Code::Is(delay) = codes::time_code(group.delay) else {
+        return refused(8 * k + 4);
+    };
+    let Code::Is(five) = codes::input_code(k, input) else {
+        return refused(8 * k + 5);
+    };
+    let Code::Is(six) = logic_byte(k, logic) else {
+        return refused(8 * k + 6);
+    };
+    let four = join(delay, 2, codes::fault_code(faults));
+    let bytes = [
+        over.level,
+        over.hysteresis,
+        under.level,
+        under.hysteresis,
+        four,
+        five,
+        six,
+        output_byte(output),
+    ];
+    accepted(bytes)
+}
+
+fn accepted(bytes: [u8; 8]) -> Encoded
+    ensures { λ r. ⌜ r ≡ record { number = 0; place = 0; bytes = bytes } ⌝ }
+{
+    Encoded {
+        number: 0,
+        place: 0,
+        bytes,
+    }
+}
+
+fn refused(address: usize) -> Encoded
+    ensures { λ r. ⌜ r ≡ refusedAt address ⌝ }
+{
+    let bytes = [0u8; 8];
+    Encoded {
+        number: OUT_OF_RANGE,
+        place: address,
+        bytes,
+    }
+}
+
+// Byte 6 of group k.
+fn logic_byte(k: usize, logic: Logic) -> Code
+    ensures { λ r. ⌜ r ≡ logicByte k logic ⌝ }
+{
+    if k >= 5 {
+        return pin_logic_byte(logic);
+    }
+    if logic.invert | logic.edge | (logic.pulse != 0) | (logic.delay != 0) {
+        return Code::Lacking;
+    }
+    Code::Is(0)
+}
+
+fn pin_logic_byte(logic: Logic) -> Code
+    ensures { λ r. ⌜ r ≡ pinLogicByte logic ⌝ }
+{
+    let Code::Is(pulse) = codes::pulse_code(logic.pulse) else {
+        return Code::Lacking;
+    };
+    let Code::Is(delay) = codes::time_code(logic.delay) else {
+        return Code::Lacking;
+    };
+    let times = join(pulse, 3, delay);
+    Code::Is(join(bit(logic.invert), 6, join(bit(logic.edge), 5, times)))
+}
+
+// Byte 7: every output has its byte.
+fn output_byte(output: Output) -> u8
+    ensures { λ r. ⌜ Code.Is r ≡ outputByte output ⌝ }
+{
+    let source = output.source;
+    let pull = output.pull;
+    join(codes::source_code(source), 4, codes::pull_code(pull))
+}
+
+fn bit(on: bool) -> u8
+    ensures { λ r. ⌜ r ≡ flag on ⌝ }
+{
+    if on { 1 } else { 0 }
+}
