@@ -3,7 +3,7 @@
 -- engine's calls answer at the start and after every tick. Assumes nothing.
 use Prim.Native.Nat.{ℕ, _+_, _*_, _/_, _≤_, _<_, max}
 use mathlib.Core.Path.{_≡_}
-use mathlib.Core.List.{List}
+use mathlib.Core.List.{List, map}
 use mathlib.Core.Bool.{true, false}
 use mathlib.Core.Logic.{_↔_}
 use lib.ListN.{length, getD, take, drop}
@@ -13,14 +13,16 @@ use Rattle.records.specs.Tags.{tagAt, repeats, lookUp}
 use Rattle.records.specs.declared.verdict.Verdict.{Verdict}
 use Rattle.records.proofs.Every.{Every}
 use Rattle.records.proofs.TagLaws as tag-laws
+use Rattle.machine.specs.Machine.{startState, tickOn}
 use Rattle.machine.specs.declared.state.State.{State}
 use Rattle.tables.specs.Tables.{cellAt, cellCount, cellVerdict, tableVerdict}
-use Rattle.sheets.specs.Sheets.{stepAt, stepCount, sheetVerdict}
+use Rattle.sheets.specs.Sheets.{stepAt, stepCount, nodeAt, sheetVerdict}
 use Rattle.sheets.proofs.AcceptedSheet.{AcceptedSheet}
 use Rattle.sheets.proofs.AcceptedSheet as sheets
 use Rattle.engine.specs.Engine.{tableStateVerdict, tableTicked, sheetStateVerdict, sheetTicked}
 use Rattle.engine.specs.Runs.{sheetRun, tableRun}
-use Rattle.translator.specs.Translation.{cellsOf, firstCell, cellTotal, cutAt, tableOf, translation, translated}
+use Rattle.engine.specs.declared.answer.Ticked.{Ticked}
+use Rattle.translator.specs.Translation.{cellsOf, firstCell, cellTotal, cutAt, tableOf, translationVerdict, translation, translated}
 use Rattle.translator.proofs.CellCounts.{sum}
 use Rattle.translator.proofs.CellCounts as counts
 use Rattle.translation_laws.proofs.AcceptedTable.{AcceptedCell, AcceptedTable}
@@ -31,17 +33,33 @@ use Rattle.translation_laws.proofs.TranslationLaws.{Refused}
 use Rattle.translation_laws.proofs.TranslationLaws as translations
 use Rattle.translation_laws.proofs.TranslatedTable as translated-tables
 use Rattle.translation_laws.proofs.StateKept as state-kept
-use Rattle.translation_laws.proofs.ThirdPoint.{SameRun}
+use Rattle.translation_laws.proofs.Simulation.{tableState}
+use Rattle.translation_laws.proofs.Simulation as simulation
 use Rattle.translation_laws.proofs.ThirdPoint as third
 use Rattle.translation_laws.proofs.WholeTags as whole-tags
 
 -- ---- the third point
 
+-- what an answer of the engine shows
+abbrev pub shown : Ticked → ℕ × ℕ
+shown answer = (answer .outputs, answer .step)
+
+-- no answer of a run is refused
+abbrev pub NoneRefused : List Ticked → Type 0
+NoneRefused run = Every (λ answer. answer .number ≡ 0) run
+
+-- the table in the lent buffer: twelve bytes for each cell, from the first byte on
+abbrev pub lentTable : List ℕ → List ℕ → List ℕ
+lentTable sheet buffer = take (12 * translation sheet buffer .cells) (translated sheet buffer)
+
 -- For every accepted sheet, every buffer and every list of words below 1024, the empty list too: the sheet's run and the run of the table that stands in the
 -- lent buffer show the same outputs and the same step at the start and after every tick, and no tick of either is refused.
 pub third-point : (sheet buffer words : List ℕ) → translation sheet buffer .number ≡ 0 → Every (λ word. word < 1024) words
-    → SameRun (sheetRun sheet words) (tableRun (take (12 * translation sheet buffer .cells) (translated sheet buffer)) words)
-third-point = third.third-point
+    → (map shown (sheetRun sheet words) ≡ map shown (tableRun (lentTable sheet buffer) words))
+    × NoneRefused (sheetRun sheet words)
+    × NoneRefused (tableRun (lentTable sheet buffer) words)
+third-point sheet buffer words translates below =
+    let run = third.third-point sheet buffer words translates below in (run .same, run .sheet, run .table)
 
 -- Both runs have an answer for the start and one for each word.
 pub sheet-run-length : (sheet words : List ℕ) → length (sheetRun sheet words) ≡ 1 + length words
@@ -50,6 +68,24 @@ sheet-run-length = third.sheet-length
 pub table-run-length : (table words : List ℕ) → length (tableRun table words) ≡ 1 + length words
 table-run-length = third.table-length
 
+-- Why: `tableState` takes the sheet's states to the table's, `elapsed / 4000` cells past the step's first with the rest elapsed. It takes the start to the start,
+pub start-follows : (sheet : List ℕ) → tableState sheet startState ≡ startState
+start-follows = simulation.start-follows
+
+-- and from every accepted state of an accepted sheet, a tick of the table goes where the sheet's tick goes,
+pub tick-follows : (sheet : List ℕ) → sheetVerdict sheet .number ≡ 0 → cellTotal sheet ≤ 63 → (state : State) → sheetStateVerdict sheet state .number ≡ 0
+    → (word : ℕ) → tickOn (cellAt (tableOf sheet)) word (tableState sheet state) ≡ tableState sheet (tickOn (nodeAt sheet) word state)
+tick-follows = third.tick-same
+
+-- and the two show the same.
+pub outputs-follow : (sheet : List ℕ) → sheetVerdict sheet .number ≡ 0 → cellTotal sheet ≤ 63 → (state : State) → sheetStateVerdict sheet state .number ≡ 0
+    → nodeAt sheet (state .at) .outputs ≡ cellAt (tableOf sheet) (tableState sheet state .at) .outputs
+outputs-follow = third.outputs-same
+
+pub step-follows : (sheet : List ℕ) → sheetVerdict sheet .number ≡ 0 → cellTotal sheet ≤ 63 → (state : State) → sheetStateVerdict sheet state .number ≡ 0
+    → nodeAt sheet (state .at) .step ≡ cellAt (tableOf sheet) (tableState sheet state .at) .step
+step-follows = third.step-same
+
 -- ---- unless the paper names the reason
 
 -- A sheet is translated exactly when it passes the sheet's tests, takes at most 63 cells and has twelve bytes of room for each.
@@ -57,10 +93,14 @@ pub translated-exactly : (sheet buffer : List ℕ)
     → (translation sheet buffer .number ≡ 0) ↔ (AcceptedSheet sheet × (cellTotal sheet ≤ 63) × (12 * cellTotal sheet ≤ length buffer))
 translated-exactly = translations.translation-accepted
 
--- Every refusal is one of the paper's, by the first test that fails, with no cell and no byte written; and each such reason is a refusal.
+-- Each reason of the paper is a refusal, with no cell; every refusal has one of them, the first test that fails; and it writes no byte.
 pub refused-by : (sheet buffer : List ℕ) {v : Verdict} → Refused sheet (length buffer) v
     → translation sheet buffer ≡ record { number = v .number; place = v .place; cells = 0 }
 refused-by = translations.refused-answer
+
+pub refusals : (sheet buffer : List ℕ) → ¬ (translation sheet buffer .number ≡ 0) → Refused sheet (length buffer) (translationVerdict sheet (length buffer))
+unfolding translation
+refusals sheet buffer = translations.shows-refused sheet (length buffer)
 
 pub refused-writes-nothing : (sheet buffer : List ℕ) → ¬ (translation sheet buffer .number ≡ 0) → translated sheet buffer ≡ buffer
 refused-writes-nothing = translations.refused-bytes
@@ -98,18 +138,22 @@ bytes-length = translations.bytes-length
 pub translated-passes : (sheet : List ℕ) → sheetVerdict sheet .number ≡ 0 → cellTotal sheet ≤ 63 → tableVerdict (tableOf sheet) ≡ accepted
 translated-passes = translated-tables.translated-passes
 
--- The whole-table verdict accepts exactly the tables that the paper's rules allow, and refuses by the first test that fails, at the lowest cell.
+-- The whole-table verdict accepts exactly the tables that the paper's rules allow.
 pub table-accepted : (table : List ℕ) → (tableVerdict table .number ≡ 0) ↔ AcceptedTable table
 table-accepted = tables.table-accepted
 
--- So does the verdict of one cell.
-pub cell-accepted : (table : List ℕ) (k : ℕ) → (cellVerdict table k .number ≡ 0) ↔ AcceptedCell (cellCount table) (cellAt table k)
-cell-accepted = tables.verdict-accepted
-
+-- It refuses by the first test that fails, at the lowest cell.
 pub table-refused : (table : List ℕ) {v : Verdict} → refused-tables.Refused table v → tableVerdict table ≡ v
 table-refused = refused-tables.refused-shows
 
--- A table that passes it refuses no tick from an accepted state with a word below 1024, and the state is accepted again.
+pub table-refusals : (table : List ℕ) → ¬ (tableVerdict table .number ≡ 0) → refused-tables.Refused table (tableVerdict table)
+table-refusals = refused-tables.shows-refused
+
+-- The verdict of one cell accepts exactly the cells that the paper's rules allow.
+pub cell-accepted : (table : List ℕ) (k : ℕ) → (cellVerdict table k .number ≡ 0) ↔ AcceptedCell (cellCount table) (cellAt table k)
+cell-accepted = tables.verdict-accepted
+
+-- A table that passes the whole-table verdict refuses no tick from an accepted state with a word below 1024, and the state is accepted again.
 pub table-ticks : (table : List ℕ) → tableVerdict table .number ≡ 0 → (state : State) (word : ℕ) → tableStateVerdict table state .number ≡ 0 → word < 1024
     → (tableTicked table state word .number ≡ 0) × (tableStateVerdict table (tableTicked table state word .state) ≡ accepted)
 table-ticks = state-kept.table-ticks
