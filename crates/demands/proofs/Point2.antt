@@ -13,7 +13,8 @@ use Rattle.image.specs.Reading.{imageVerdict, settingsOf, zeroSettings, reading
 use Rattle.writing.specs.Writing.{settingsVerdict, writeVerdict, imageOf, written, blankImage}
 use Rattle.image.specs.Normal.{normal}
 use Rattle.image.specs.declared.settings.Settings.{Settings}
-use Rattle.image_laws.proofs.Conditions.{Bytes, GoodBelow, Reached, usableAt, printedAt, Typed, MeantBelow, LowestLacking}
+use Rattle.records.proofs.Every.{Bytes}
+use Rattle.image_laws.proofs.Conditions.{GoodBelow, Reached, usableAt, printedAt, Typed, MeantBelow, LowestLacking}
 use Rattle.image_laws.proofs.Acceptance as acceptance
 use Rattle.image_laws.proofs.Refusals as refusals
 use Rattle.image_laws.proofs.RoundTrip as round-trip

@@ -11,7 +11,7 @@ use Rattle.records.specs.Lists.{each}
 use Rattle.records.specs.Verdicts.{accepted}
 use Rattle.records.specs.Tags.{tagAt, repeats, lookUp}
 use Rattle.records.specs.declared.verdict.Verdict.{Verdict}
-use Rattle.records.proofs.Every.{Every}
+use Rattle.records.proofs.Every.{Every, Bytes}
 use Rattle.records.proofs.TagLaws as tag-laws
 use Rattle.machine.specs.Machine.{startState, tickOn}
 use Rattle.machine.specs.declared.state.State.{State}
@@ -183,9 +183,9 @@ pub look-up-inverse : (w : ℕ) (bytes : List ℕ) (n : ℕ) → ((j : ℕ) → 
 look-up-inverse = tag-laws.lookUp-tagAt
 
 -- Tags are whole numbers of sixteen bits: two records have one tag exactly when both its bytes are the same.
-pub tag-range : (w : ℕ) (bytes : List ℕ) → Every (λ byte. byte < 256) bytes → (k : ℕ) → tagAt w bytes k < 65536
+pub tag-range : (w : ℕ) (bytes : List ℕ) → Bytes bytes → (k : ℕ) → tagAt w bytes k < 65536
 tag-range = whole-tags.tag-lt
 
-pub same-tag : (w : ℕ) (bytes : List ℕ) → Every (λ byte. byte < 256) bytes → (i j : ℕ)
+pub same-tag : (w : ℕ) (bytes : List ℕ) → Bytes bytes → (i j : ℕ)
     → (tagAt w bytes i ≡ tagAt w bytes j) ↔ ((getD bytes (w * i) 0 ≡ getD bytes (w * j) 0) × (getD bytes (w * i + 1) 0 ≡ getD bytes (w * j + 1) 0))
 same-tag = whole-tags.same-tag

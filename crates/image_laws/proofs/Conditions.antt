@@ -13,10 +13,6 @@ use Rattle.image.specs.declared.codes.Code.the-variants.{Lacking}
 use Rattle.image.specs.declared.settings.Settings.{Settings}
 
 -- ---- the image
--- every element is a byte: what the type `&[u8]` of src/ holds already
-abbrev pub Bytes : List ℕ → Type 0
-Bytes image = (a : ℕ) → getD image a 0 < 256
-
 -- byte j of group k has no bit set that cannot be used, and has only printed codes
 pub record GoodByte (k j b : ℕ) : Type 0 where
   pub can-be-used : usable k j b ≡ true

@@ -22,7 +22,8 @@ use Rattle.image_laws.proofs.Refusals.{image-length}
 use Rattle.image_laws.proofs.RoundTripLaws.{meant-at}
 use Rattle.image_laws.proofs.RoundTrip.{image-of-accepted, settings-of-image-of, settings-of-accepted}
 use Rattle.image_laws.proofs.ByteLaws.{eight}
-use Rattle.image_laws.proofs.Conditions.{Bytes, GoodByte, Typed}
+use Rattle.records.proofs.Every.{Bytes}
+use Rattle.image_laws.proofs.Conditions.{GoodByte, Typed}
 use Rattle.image_laws.proofs.ReadWriteLaws.{read-write}
 use Rattle.image_laws.proofs.WriteReadLaws.{hysteresis-back, timing-back, input-back, logic-back, output-back, write-good, write-byte}
 

@@ -13,7 +13,7 @@ use Rattle.image.specs.Reading.{imageVerdict, settingsOf}
 use Rattle.writing.specs.Writing.{imageOf}
 use Rattle.image.specs.Normal.{normalByte, normal}
 use Rattle.records.proofs.VerdictLaws.{numberOf}
-use Rattle.image_laws.proofs.Conditions.{Bytes}
+use Rattle.records.proofs.Every.{Bytes}
 use Rattle.image_laws.proofs.ByteLaws.{normal-le, normal-once}
 use Rattle.image_laws.proofs.RoundTrip.{settings-ten, image-of-accepted, settings-of-image-of, settings-of-accepted, image-of-settings-of}
 

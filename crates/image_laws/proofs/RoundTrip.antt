@@ -15,7 +15,7 @@ use Rattle.image.specs.declared.reader.Reading.{Reading}
 use Rattle.image.specs.declared.settings.Settings.{Settings}
 use Rattle.image_laws.proofs.TableLaws.{never-lacking}
 use Rattle.records.proofs.VerdictLaws.{numberOf}
-use Rattle.image_laws.proofs.Conditions.{Bytes}
+use Rattle.records.proofs.Every.{Bytes}
 use Rattle.image_laws.proofs.Acceptance.{image-accepted, settings-accepted, settings-zero, write-eighty}
 use Rattle.image_laws.proofs.Refusals.{image-length, reading-accepted, written-accepted}
 use Rattle.image_laws.proofs.RoundTripLaws.{image-good, settings-back, setting-normal}

@@ -17,7 +17,8 @@ use Rattle.image.specs.declared.codes.Code.{Code}
 use Rattle.image.specs.declared.codes.Code.the-variants.{Is, Lacking}
 use Rattle.image.specs.declared.settings.Group.{Group}
 use Rattle.image.specs.declared.settings.Settings.{Settings}
-use Rattle.image_laws.proofs.Conditions.{Bytes, GoodBelow}
+use Rattle.records.proofs.Every.{Bytes}
+use Rattle.image_laws.proofs.Conditions.{GoodBelow}
 use Rattle.image_laws.proofs.Acceptance.{image-accepted, image-zero, settings-accepted, settings-zero}
 use Rattle.image_laws.proofs.ReadWriteLaws.{read-write}
 use Rattle.image_laws.proofs.WriteReadLaws.{write-good, write-read}

@@ -27,7 +27,7 @@ due node elapsed = not (eqb (node .timeout) 0) && leb (node .timeout) (elapsed +
 unfoldable pub exitOf : Node → ℕ → ℕ → Exit
 exitOf node elapsed word = cond (shares node word) Fault (cond (met node word) Sequence (cond (due node elapsed) Timeout Stay))
 
--- the paper's number of each exit
+-- "exit taken (1 byte: 1 fault, 2 sequence, 3 timeout)", and 0 where none is
 abbrev pub exitNumber : Exit → ℕ
 exitNumber Stay = 0
 exitNumber Fault = 1

@@ -15,3 +15,7 @@ pub every-at : {A : Type 0} {P : A → Type 0} {xs : List A} (d : A) → Every P
 every-at d none i h = absurd (not-suc-le-zero h)
 every-at d (p also ps) zero h = p
 every-at d (p also ps) (suc i) h = every-at d ps i (le-of-suc-le-suc h)
+
+-- every element is a byte: what the type `&[u8]` of src/ holds already
+abbrev pub Bytes : List ℕ → Type 0
+Bytes list = (i : ℕ) → getD list i 0 < 256

@@ -18,7 +18,7 @@ pub(crate) fn step_fault(step: Step) -> Verdict
     let rest = or_else(jump_fault(step.timeout != 0, step.timeoutjump, 14), rest);
     let rest = or_else(refuse_unless(step.timeout <= 40000, RANGE, 12), rest);
     let rest = or_else(jump_fault(step.channel != 0, step.sequencejump, 10), rest);
-    let allowed = step.channel != 0 || step.level == 0;
+    let allowed = (step.channel != 0) | (step.level == 0);
     let rest = or_else(refuse_unless(allowed, LEVEL_WITHOUT_CHANNEL, 9), rest);
     let rest = or_else(refuse_unless(step.level <= 1, RANGE, 9), rest);
     let rest = or_else(refuse_unless(step.channel <= 10, RANGE, 8), rest);

@@ -20,7 +20,7 @@ pub(crate) fn cell_fault(cells: usize, cell: Node) -> Verdict
     let rest = or_else(refuse_unless(cell.timeout <= 4000, RANGE, 8), rest);
     let present = cell.channel != 0;
     let rest = or_else(next_fault(cells, present, cell.sequenceto, 7), rest);
-    let allowed = cell.channel != 0 || cell.level == 0;
+    let allowed = (cell.channel != 0) | (cell.level == 0);
     let rest = or_else(refuse_unless(allowed, LEVEL_WITHOUT_CHANNEL, 6), rest);
     let rest = or_else(refuse_unless(cell.level <= 1, RANGE, 6), rest);
     let rest = or_else(refuse_unless(cell.channel <= 10, RANGE, 5), rest);

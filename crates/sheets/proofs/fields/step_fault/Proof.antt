@@ -1,14 +1,8 @@
 -- `sheets::fields::step_fault` meets its contract: the tests are joined from the last to the first, as the first refusal of their list reads.
 -- Assumes nothing.
-use mathlib.Core.Path.{_≡_, ap, _∙_}
-use mathlib.Core.Bool.{Bool, not}
-use mathlib.Core.Logic.{⊎-elim}
-use borrow.Author.Tests.{eq-eqb, ne-eqb}
 use borrow.Author.Needs.{needs}
-use Rattle.records.specs.Verdicts.{refusedUnless}
 use Rattle.records.proofs.VerdictLaws.{first-none, first-tested}
 use Rattle.machine.specs.Fields.{outputsInRange, maskInRange, channelInRange, levelInRange, levelAllowed}
-use Rattle.records.proofs.TestLaws.{or-left, or-right}
 use Rattle.sheets.specs.Sheets.{stepFault}
 use Rattle.sheets.proofs.fields.step_fault.Statement.{statement}
 use Rattle.sheets.proofs.fields.step_fault.Tie as tie
@@ -76,13 +70,6 @@ refuse-unless-requires-8 c κs = search needs
 or-else-requires-10 : tie.Need-or-else-requires-10
 or-else-requires-10 c κs = search needs
 
--- the flag is the test of the level
-allows : (c : tie.Joined1)
-    → c .if1 .allowed ≡ levelAllowed (c .before .before .before .before .before .before .before .before .before .before .before .before .args .step .channel) (c .before .before .before .before .before .before .before .before .before .before .before .before .args .step .level)
-unfolding levelAllowed
-allows c =
-    ⊎-elim (λ w. or-left _ (ap not (ne-eqb _ 0 (w .0 .taken))) (w .1)) (λ w. or-right (ap not (eq-eqb _ 0 (w .0 .left))) (w .2)) (c .if1 .came)
-
 returns : tie.Need-returns
 unfolding stepFault outputsInRange maskInRange channelInRange levelInRange levelAllowed
 returns c =
@@ -101,8 +88,7 @@ returns c =
     (first-tested _ (fault .or-else7 .ensures) (fault .before .jump-fault3 .ensures)
     (first-tested _ (channel .or-else6 .ensures) (channel .before .refuse-unless5 .ensures)
     (first-tested _ (level .or-else5 .ensures) (level .before .refuse-unless4 .ensures)
-    (first-tested _ (allowed .or-else4 .ensures)
-    (allowed .before .refuse-unless3 .ensures ∙ ap (λ (holds : Bool). refusedUnless holds 15 9) (allows (allowed .before .before)))
+    (first-tested _ (allowed .or-else4 .ensures) (allowed .before .refuse-unless3 .ensures)
     (first-tested _ (sequence .or-else3 .ensures) (sequence .before .jump-fault2 .ensures)
     (first-tested _ (timeout .or-else2 .ensures) (timeout .before .refuse-unless2 .ensures)
     (first-tested _ (timeoutto .or-else .ensures) (timeoutto .before .jump-fault .ensures)

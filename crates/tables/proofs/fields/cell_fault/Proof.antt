@@ -1,12 +1,6 @@
 -- `tables::fields::cell_fault` meets its contract: its ten tests are the definition's, joined from the last to the first. Assumes nothing.
-use mathlib.Core.Path.{_≡_, ap, _∙_}
-use mathlib.Core.Bool.{Bool, not}
-use mathlib.Core.Logic.{⊎-elim}
 use borrow.Author.Needs.{needs}
-use borrow.Author.Tests.{eq-eqb, ne-eqb}
-use Rattle.records.specs.Verdicts.{refusedUnless}
 use Rattle.records.proofs.VerdictLaws.{first-none, first-tested}
-use Rattle.records.proofs.TestLaws.{or-left, or-right}
 use Rattle.machine.specs.Fields.{outputsInRange, maskInRange, channelInRange, levelInRange, levelAllowed}
 use Rattle.tables.specs.Tables.{cellFault}
 use Rattle.tables.proofs.fields.cell_fault.Statement.{statement}
@@ -87,19 +81,12 @@ returns c =
     let timeout = sequence .before .before .before in
     let timeoutto = timeout .before .before .before in
     let step = timeoutto .before .before .before in
-    let cell = step .before .before .before .before .args .cell in
-    let agrees = allowed .before .before .if1 .allowed ≡ levelAllowed (cell .channel) (cell .level) in
-    let flag : agrees =
-    ⊎-elim {C = agrees}
-    (λ w. or-left _ (ap not (ne-eqb _ _ (w .0 .taken))) (w .1))
-    (λ w. or-right (ap not (eq-eqb _ _ (w .0 .left))) (w .2))
-    (allowed .before .before .if1 .came) in
     first-tested _ (c .or-else10 .ensures) (c .before .refuse-unless8 .ensures)
     (first-tested _ (mask .or-else9 .ensures) (mask .before .refuse-unless7 .ensures)
     (first-tested _ (fault .or-else8 .ensures) (fault .before .next-fault3 .ensures)
     (first-tested _ (channel .or-else7 .ensures) (channel .before .refuse-unless6 .ensures)
     (first-tested _ (level .or-else6 .ensures) (level .before .refuse-unless5 .ensures)
-    (first-tested _ (allowed .or-else5 .ensures) (allowed .before .refuse-unless4 .ensures ∙ ap (λ (holds : Bool). refusedUnless holds 15 6) flag)
+    (first-tested _ (allowed .or-else5 .ensures) (allowed .before .refuse-unless4 .ensures)
     (first-tested _ (sequence .or-else4 .ensures) (sequence .before .next-fault2 .ensures)
     (first-tested _ (timeout .or-else3 .ensures) (timeout .before .refuse-unless3 .ensures)
     (first-tested _ (timeoutto .or-else2 .ensures) (timeoutto .before .next-fault .ensures)
