@@ -12,25 +12,36 @@ ghost use Rattle.io.specs.Counts.{Counts};
 ghost use Rattle.text.specs.Text.{written};
 ghost use Rattle.console.specs.Refusal.{refusalLine};
 
-// Reads standard input to its end or until the buffer is full, and answers how many bytes it put at
-// the start of the buffer. A read that fails counts as no byte at all, however many came before it,
-// so that what came is never taken for the whole input.
-pub fn receive(buffer: &mut [u8]) -> usize
-    ensures { λ r. ⌜ Counts r (now (buffer .exit)) ⌝ }
+// How many bytes came, at the start of the buffer; none where a read failed.
+pub struct Received {
+    pub count: usize,
+    pub failed: bool,
+}
+
+// Reads standard input to its end or until the buffer is full. A read that fails counts as no byte at
+// all, however many came before it, so that what came is never taken for the whole input.
+pub fn receive(buffer: &mut [u8]) -> Received
+    ensures { λ r. ⌜ Counts (r .count) (now (buffer .exit)) ⌝ }
 {
     let mut done = 0;
     while done < buffer.len() {
         let got = libc::read(STDIN_FILENO, &mut buffer[done..]);
         if got < 0 {
-            return 0;
+            return Received {
+                count: 0,
+                failed: true,
+            };
         }
         let more = io::count(got, &buffer[done..]);
         if more == 0 {
-            return done;
+            break;
         }
         done += more;
     }
-    done
+    Received {
+        count: done,
+        failed: false,
+    }
 }
 
 // Writes a line to standard output, and answers how many bytes stand in it.

@@ -12,9 +12,9 @@ use text::Line;
 fn main() {
     // One byte more than the longest sheet, so that a longer input is refused and not cut.
     let mut sheet = [0u8; 1009];
-    let count = console::receive(&mut sheet);
+    let received = console::receive(&mut sheet);
     let mut table = [0u8; 756];
-    let translation = translator::translate(&sheet[..count], &mut table);
+    let translation = translator::translate(&sheet[..received.count], &mut table);
     if translation.number != 0 {
         print(console::refusal(translation.number, translation.place));
         return;

@@ -18,8 +18,8 @@ use text::Line;
 fn main() {
     // One byte more than an image, so that a longer input is refused and not cut.
     let mut buffer = [0u8; 81];
-    let count = console::receive(&mut buffer);
-    let reading = image::read(&buffer[..count]);
+    let received = console::receive(&mut buffer);
+    let reading = image::read(&buffer[..received.count]);
     if reading.number != 0 {
         print(console::refusal(reading.number, reading.place));
         return;
