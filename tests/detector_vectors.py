@@ -1,113 +1,65 @@
-#!/usr/bin/env python3
-"""Writes the rows that detector_test reads and the lines that it must print, by the paper.
+"""Cases of the detectors: the chosen rows of ticks; and every threshold with every hysteresis, on both sides of each edge,
+every pulse from its rise to its end, and many rows of settings, states and frames by chance.
 
-  python3 tests/detector_vectors.py FOLDER         the chosen rows, into FOLDER/stdin and FOLDER/stdout
-  python3 tests/detector_vectors.py --all FOLDER   every threshold with every hysteresis, on both sides of each
-                                                   edge; every pulse from its rise to its end; and many rows of
-                                                   settings, states and frames by chance
-
-The chosen rows stand in crates/detector_test. To try them all:
-
-  python3 tests/detector_vectors.py --all target/all
-  ./wrackbasket detector_test target/all/stdin | cmp - target/all/stdout
-
-crates/detector_test/src/main.rt says what a row and a line hold. Many rows try all channels at once,
-each with a case of its own, since no channel may disturb another."""
+Many rows try all channels at once, each with settings and samples of its own, since no channel may disturb another."""
 import itertools
-import pathlib
 import random
 
-import vectors
-from detector_model import FRAME_LENGTH, FRAMES, LEVELS, Channel, engine_tick, start, tick, ticks
-from image_model import CHANNELS, DELAYS, FAULTS, INPUTS, LENGTH, PULSES
-from image_model import family, image_verdict, settings_of, written_image
+from cases import ENGINE_TICK, TICK, Case, bank_bytes, settings_bytes, verdict_bytes, word_bytes
+from detector_model import FRAME_LENGTH, FRAMES, LEVELS, engine_tick, start, tick, ticks
+from image_model import CHANNELS, DELAYS, FAULTS, INPUTS, LENGTH, PULSES, family, settings_of
 
-NAME_LENGTH, MOST_TIMES = 25, 23
 ENGINE_LENGTH = FRAME_LENGTH * FRAMES
-LENT = 512
 VP1, VP2, VP3, VP4, VH, VX1, VX2, VX3, VX4, VX5 = range(10)
 VP_AND_VH, VX, ALL = range(VP1, VX1), range(VX1, VX5 + 1), range(VP1, VX5 + 1)
 
-# The settings that a row can make bad, in the order of their numbers.
-BAD_SETTINGS = ["over-hysteresis", "delay", "pulse"]
-
-
-def words(*numbers):
-    return b"".join(bytes([number % 256, number // 256]) for number in numbers)
-
 
 class Row:
-    """Settings over the blank image's and a state over the start's, both by channel; what the sample
-    of a channel and the level byte are in each frame, the last value to the end; and the call."""
+    """Settings over the blank image's and a state over the start's, both by channel; what the sample of a channel and
+    the level byte are in each frame, the last value to the end; and the call, made so many times. Each call is a
+    case: its frames begin one frame after the last call's, and the bank that a call gives back is the next one's."""
 
-    def __init__(self, name, settings=None, state=None, samples=None, levels=None, *, bad=(), engine=False, length=None, times=None):
+    def __init__(self, name, settings=None, state=None, samples=None, levels=None, *, engine=False, length=None, times=None):
         self.name = name
-        self.settings = settings or {}
-        self.state = state or {}
+        self.settings = settings_of(bytes(LENGTH))
+        for k, changes in (settings or {}).items():
+            self.settings[k].update(changes)
+        self.bank = start()
+        for k, changes in (state or {}).items():
+            self.bank[k] = self.bank[k]._replace(**changes)
         self.columns = {**(samples or {}), LEVELS: levels or []}
-        self.bad = bad
         self.engine = engine
         self.length = length if length is not None else ENGINE_LENGTH if engine else FRAME_LENGTH
         self.times = times or (1 if engine else max(1, *(len(column) for column in self.columns.values())))
-        assert len(name) <= NAME_LENGTH and self.times <= MOST_TIMES, name
 
-    def image(self):
-        groups = settings_of(bytes(LENGTH))
-        for k, changes in self.settings.items():
-            groups[k].update(changes)
-        image = written_image(groups)
-        assert image_verdict(image) == (0, 0), self.name
-        return image
+    def frames_from(self, i):
+        count = -(-self.length // FRAME_LENGTH)
+        values = (value_at(self.columns.get(column, []), j) for j in range(i, i + count) for column in range(FRAME_LENGTH))
+        return bytes(values)[:self.length]
 
-    def bank(self):
-        bank = start()
-        for k, changes in self.state.items():
-            bank[k] = bank[k]._replace(**changes)
-        return bank
-
-    def runs(self):
-        """Each lent byte from which on its column holds another value."""
-        for column, values in sorted(self.columns.items()):
-            for i, value in enumerate(values):
-                if value != (values[i - 1] if i else 0):
-                    yield FRAME_LENGTH * i + column, value
-
-    def row(self):
-        image = [bytes(one) for one in enumerate(self.image()) if one[1]]
-        bad = [bytes([k, BAD_SETTINGS.index(name)]) + words(value) for k, name, value in self.bad]
-        channels = [self.channel_bytes(k, channel) for k, channel in enumerate(self.bank()) if channel != Channel()]
-        lent = [bytes(one) for one in self.runs()]
-        header = self.name.encode("ascii").ljust(NAME_LENGTH, b"\0") + bytes([self.engine, self.times, self.length])
-        lists = (image, bad, channels, lent)
-        return header + bytes(map(len, lists)) + b"".join(map(b"".join, lists))
-
-    @staticmethod
-    def channel_bytes(k, channel):
-        flags = channel.over + 2 * channel.under + 4 * channel.analog_filtered + 8 * channel.logic_filtered
-        return bytes([k, flags]) + words(channel.analog_count, channel.logic_count, channel.left)
-
-    def answers(self):
-        """The bank that each call receives, and its answer."""
-        settings, bank, lent = settings_of(self.image()), self.bank(), bytearray(LENT)
-        for k, name, value in self.bad:
-            settings[k][name] = value
-        for at, value in self.runs():
-            lent[at::FRAME_LENGTH] = bytes([value]) * len(lent[at::FRAME_LENGTH])
+    def calls(self):
+        """The bank and the frames that each call receives, and its answer."""
+        bank = self.bank
         for i in range(self.times):
-            part = bytes(lent[FRAME_LENGTH * i:][:self.length])
-            answer = (engine_tick if self.engine else tick)(settings, bank, part)
-            yield bank, answer
+            frames = self.frames_from(i)
+            answer = (engine_tick if self.engine else tick)(self.settings, bank, frames)
+            yield bank, frames, answer
             bank = answer.bank
 
-    def lines(self):
-        for i, (before, answer) in enumerate(self.answers()):
-            changed = [k for k in ALL if answer.bank[k] != before[k]]
-            kept = "changed" if changed else "kept"
-            yield f"{self.name} {i} {answer.number} {answer.place} {answer.faults:04x} {answer.warnings:04x} {kept}"
-            for k in changed:
-                channel = answer.bank[k]
-                flags = f"{channel.over}{channel.under}{channel.analog_filtered}{channel.logic_filtered}"
-                yield f"{k} {flags} {channel.analog_count} {channel.logic_count} {channel.left}"
+    def last_answer(self):
+        return list(self.calls())[-1][-1]
+
+    def cases(self):
+        kind = ENGINE_TICK if self.engine else TICK
+        settings = settings_bytes(self.settings)
+        for i, (bank, frames, answer) in enumerate(self.calls()):
+            name = self.name if self.times == 1 else f"{self.name}-tick-{i}"
+            yield Case(f"detect-{name}", kind, settings + bank_bytes(bank) + frames, b"", detected_bytes(answer))
+
+
+def detected_bytes(answer):
+    words = word_bytes(answer.faults) + word_bytes(answer.warnings)
+    return verdict_bytes((answer.number, answer.place)) + bank_bytes(answer.bank) + words
 
 
 def value_at(column, i):
@@ -270,12 +222,13 @@ def order_rows():
     """Tests run in the order 1, 4, 8, 9: every set of faults at once."""
     for engine, wrong in ((False, 10), (True, 219)):
         for one, four, eight, nine in itertools.product((0, 1), repeat=4):
-            yield Row(f"order-{'engine' if engine else 'tick'}-{one}-{four}-{eight}-{nine}", None, {VP3: {"analog_count": 1}} if eight else None,
-                      {VP1: [1]}, [32] if nine else None, bad=[(VX2, "delay", 7)] if four else [], engine=engine, length=wrong if one else None)
-    for name, bad in (("lowest-address", [(VX1, "pulse", 0), (VX1, "delay", 101), (VP4, "over-hysteresis", 32)]),
-                      ("lowest-address-of-group", [(VX5, "pulse", 11), (VX5, "over-hysteresis", 255)]),
-                      ("bad-pulse", [(VX5, "pulse", 0)]), ("logic-part-on-VP1", [(VP1, "pulse", 10)]), ("bad-delay", [(VP1, "delay", 6)])):
-        yield Row(name, None, {VP1: {"analog_count": 1, "left": 1}}, {VP1: [1]}, bad=bad)
+            yield Row(f"order-{'engine' if engine else 'tick'}-{one}-{four}-{eight}-{nine}", {VX2: {"delay": 7}} if four else None,
+                      {VP3: {"analog_count": 1}} if eight else None, {VP1: [1]}, [32] if nine else None,
+                      engine=engine, length=wrong if one else None)
+    for name, bad in (("lowest-address", {VX1: {"pulse": 0, "delay": 101}, VP4: {"over-hysteresis": 32}}),
+                      ("lowest-address-of-group", {VX5: {"pulse": 11, "over-hysteresis": 255}}),
+                      ("bad-pulse", {VX5: {"pulse": 0}}), ("logic-part-on-VP1", {VP1: {"pulse": 10}}), ("bad-delay", {VP1: {"delay": 6}})):
+        yield Row(name, bad, {VP1: {"analog_count": 1, "left": 1}}, {VP1: [1]})
 
 
 def frame_rows():
@@ -355,14 +308,18 @@ def chance_rows(rows, beyond):
         levels = chance_column(chance, range(33 if chance.random() < beyond else 32))
         engine = Row(f"chance-{i}-engine", settings, state, samples, levels, engine=True)
         single = Row(f"chance-{i}-ticks", settings, state, samples, levels, times=FRAMES)
-        once, last = list(engine.answers())[-1][1], list(single.answers())[-1][1]
-        assert once.number or once == last
+        once = engine.last_answer()
+        assert once.number or once == single.last_answer()
         yield from (engine, single)
 
 
-def chosen_rows():
-    return [*over_rows(), *under_rows(), *fault_type_rows(), *delay_rows(), *pulse_rows(), *logic_rows(), *function_rows(),
-            *limit_rows(), *lowest_rows(), *order_rows(), *frame_rows(), *engine_rows(), *chance_rows(1, 0)]
+def cases_of(rows):
+    return (case for row in rows for case in row.cases())
+
+
+def chosen_cases():
+    return cases_of([*over_rows(), *under_rows(), *fault_type_rows(), *delay_rows(), *pulse_rows(), *logic_rows(), *function_rows(),
+                     *limit_rows(), *lowest_rows(), *order_rows(), *frame_rows(), *engine_rows(), *chance_rows(1, 0)])
 
 
 def every_threshold():
@@ -386,13 +343,9 @@ def every_pulse():
             row = Row(f"whole-{pulse}-{level}-{i}", settings, state, None, levels, times=FRAMES)
             yield row
             yield Row(f"whole-{pulse}-{level}-{i}-engine", settings, state, None, levels, engine=True)
-            state = {VX4: list(row.answers())[-1][1].bank[VX4]._asdict()}
+            state = {VX4: row.last_answer().bank[VX4]._asdict()}
             i += 1
 
 
-def all_rows():
-    return [*every_threshold(), *every_pulse(), *chance_rows(2000, 0.03)]
-
-
-if __name__ == "__main__":
-    vectors.write(__doc__, chosen_rows, all_rows, Row.row, Row.lines)
+def all_cases():
+    return cases_of(itertools.chain(every_threshold(), every_pulse(), chance_rows(2000, 0.03)))

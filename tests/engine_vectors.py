@@ -1,55 +1,104 @@
-#!/usr/bin/env python3
-"""Writes the rows that engine_test reads and the lines that it must print, by the paper.
+"""Cases of the engine on tables and on sheets: the chosen ticks and runs; and every word and level on every channel, and many
+ticks and runs by chance.
 
-  python3 tests/engine_vectors.py FOLDER         the chosen rows, into FOLDER/stdin and FOLDER/stdout
-  python3 tests/engine_vectors.py --all FOLDER   every word and level on every channel, and many ticks and runs by chance
-
-The chosen rows stand in crates/engine_test. To try them all:
-
-  python3 tests/engine_vectors.py --all target/all
-  ./wrackbasket engine_test target/all/stdin | cmp - target/all/stdout
-
-A row is a name of at most 48 bytes with zeros after it, its kind (0 a tick of a table, 1 a tick of a
-sheet, 2 a run of a sheet beside its table), the number of stretches, the state's cell or step, a zero,
-then the state's elapsed, the word and the length of the table or sheet in two bytes each, the table
-or sheet, and the stretches of a run: a word and for how many ticks it stands, in two bytes each."""
-import pathlib
+A run goes from the start of a sheet and beside it of its table, over stretches of ticks with the same word. Where both only
+wait the ticks are left out, and the next states given are those at the end of the wait. Of a chosen run over many steps or by
+chance a part is taken."""
+import itertools
 import random
+from typing import Callable, NamedTuple
 
-import vectors
-from sheet_model import ACCEPTED, CELL, CELL_FIELDS, EXITS, START, WORDS
-from sheet_model import record_bytes, sheet_verdict, steps_of, table_verdict, translated_cells
-from sheet_model import tick_sheet, tick_table, translation
-from sheet_vectors import EXAMPLES, NAME_LENGTH, PAPER, ROOM, chance_sheet, plain, sheet_of, step, waits
+from cases import SHOW_SHEET, SHOW_TABLE, TICK_SHEET, TICK_TABLE, Case, state_bytes, ticked_bytes, word_bytes
+from sheet_model import ACCEPTED, CELL, CELL_FIELDS, EXITS, MOST, START, WORDS, cells_of, exit_taken
+from sheet_model import record_bytes, sheet_verdict, steps_of, tick_sheet, tick_table, translated_cells, translation
+from sheet_vectors import EXAMPLES, PAPER, ROOM, chance_sheet, filled, plain, room_for, sheet_cases, sheet_of
+from sheet_vectors import sheet_verdict_case, step, table_verdict_case, waits, words
 
-TABLE, SHEET, RUN = range(3)
+
+class Engine(NamedTuple):
+    name: str
+    tick_kind: int
+    show_kind: int
+    tick: Callable
+
+
+ON_TABLE = Engine("table", TICK_TABLE, SHOW_TABLE, tick_table)
+ON_SHEET = Engine("sheet", TICK_SHEET, SHOW_SHEET, tick_sheet)
+FOREVER = 65536
+
+
+def tick_case(engine, name, data, state, word):
+    given = state_bytes(state) + word_bytes(word) + data
+    return Case(f"tick-{engine.name}-{name}", engine.tick_kind, given, b"", ticked_bytes(engine.tick(data, state, word)))
+
+
+def show_case(engine, name, data, state):
+    return Case(f"show-{engine.name}-{name}", engine.show_kind, state_bytes(state) + data, b"", ticked_bytes(engine.tick(data, state)))
 
 
 def cell(*pairs):
-    values = dict.fromkeys(CELL_FIELDS, 0)
-    for name, value in zip(pairs[::2], pairs[1::2]):
-        values[name] = value
-    return values
+    return filled(CELL_FIELDS, pairs)
 
 
 def table_of(cells):
     return b"".join(record_bytes(CELL_FIELDS, one) for one in cells)
 
 
-def table_case(name, cells, state, word):
-    return (f"table-{name}", TABLE, cells if isinstance(cells, bytes) else table_of(cells), state, word, ())
+def table_cases(name, cells, state, word):
+    """A tick, what shows before it, and the verdicts on the whole table and on the current cell."""
+    table = cells if isinstance(cells, bytes) else table_of(cells)
+    yield tick_case(ON_TABLE, name, table, state, word)
+    yield show_case(ON_TABLE, name, table, state)
+    yield table_verdict_case(name, table, state[0])
 
 
-def sheet_case(name, steps, state, word):
-    return (f"sheet-{name}", SHEET, steps if isinstance(steps, bytes) else sheet_of(steps), state, word, ())
+def sheet_tick_cases(name, steps, state, word):
+    """A tick, what shows before it, and the verdict on the sheet."""
+    sheet = steps if isinstance(steps, bytes) else sheet_of(steps)
+    yield tick_case(ON_SHEET, name, sheet, state, word)
+    yield show_case(ON_SHEET, name, sheet, state)
+    yield sheet_verdict_case(name, sheet)
 
 
-def run_case(name, sheet, stretches):
-    return (f"run-{name}", RUN, sheet, START, 0, tuple(stretches))
+def waiting_ticks(record, elapsed, word):
+    """How many ticks of the word take no exit, at most."""
+    if word >= WORDS or exit_taken(record, elapsed, word):
+        return 0
+    return record["timeout"] - 1 - elapsed if record["timeout"] else FOREVER
 
 
-def joined(pairs):
-    return "-".join(str(part).replace(" ", "-") for part in pairs)
+def waited(record, state, ticks):
+    return (state[0], state[1] + ticks if record["timeout"] else 0)
+
+
+def run_ticks(sheet, table, stretches):
+    """The number, the sheet's state, the table's state and the word of the first tick of each stretch and of each tick that
+    takes an exit, if they have not been met before. The ticks between them only wait."""
+    steps, cells = steps_of(sheet), cells_of(table)
+    one, other, tick, end, met = START, START, 0, 0, set()
+    for word, count in stretches:
+        end += count
+        while tick < end:
+            if (one, other, word) not in met:
+                met.add((one, other, word))
+                yield tick, one, other, word
+            one, other = tick_sheet(sheet, one, word)[2:4], tick_table(table, other, word)[2:4]
+            here, there = steps[one[0]], cells[other[0]]
+            skipped = min(waiting_ticks(here, one[1], word), waiting_ticks(there, other[1], word), end - tick - 1)
+            one, other, tick = waited(here, one, skipped), waited(there, other, skipped), tick + 1 + skipped
+
+
+def run_cases(name, sheet, stretches, first=0, last=None):
+    """The translation, the starts, and the run's ticks first to last of the sheet and of its table by turns."""
+    name = f"run-{name}"
+    table = translation(sheet, ROOM)[1]
+    yield from sheet_cases(name, sheet, room_for(sheet))
+    yield show_case(ON_SHEET, name, sheet, START)
+    yield show_case(ON_TABLE, name, table, START)
+    for tick, one, other, word in itertools.islice(run_ticks(sheet, table, stretches), first, last):
+        assert tick_sheet(sheet, one, word)[4:] == tick_table(table, other, word)[4:]
+        yield tick_case(ON_SHEET, f"{name}-tick-{tick}", sheet, one, word)
+        yield tick_case(ON_TABLE, f"{name}-tick-{tick}", table, other, word)
 
 
 def three_exits(tag, outputs, ticks, fault, sequence, timeout):
@@ -108,16 +157,16 @@ def exit_ticks():
 
 def exit_cases():
     for pairs, elapsed, word in exit_ticks():
-        name = joined((*pairs, "elapsed", elapsed, "word", word)).replace("-timeout", "-t").replace("-channel", "-c")
-        yield table_case(name, four_cells(*pairs), (0, elapsed), word)
-        yield sheet_case(name, four_steps(*pairs), (0, elapsed), word)
+        name = words((*pairs, "elapsed", elapsed, "word", word))
+        yield from table_cases(name, four_cells(*pairs), (0, elapsed), word)
+        yield from sheet_tick_cases(name, four_steps(*pairs), (0, elapsed), word)
 
 
 def long_wait_cases():
     """Elapsed on a sheet goes up to 39,999."""
     for timeout in (4001, 8000, 40000):
         for elapsed in (0, 3998, 3999, 4000, 4001, timeout - 2, timeout - 1, timeout):
-            yield sheet_case(f"wait-{timeout}-elapsed-{elapsed}", waits([timeout, 1]), (0, elapsed), 0)
+            yield from sheet_tick_cases(f"wait-{timeout}-elapsed-{elapsed}", waits([timeout, 1]), (0, elapsed), 0)
 
 
 def itself_cases():
@@ -126,10 +175,10 @@ def itself_cases():
     table = translation(sheet_of([step(1, "mask", 1, "fault jump", 5), *wait]), ROOM)[1]
     for word in (0, 1, 2, 3):
         for elapsed in (0, 1, 8999):
-            yield sheet_case(f"itself-elapsed-{elapsed}-word-{word}", wait, (0, elapsed), word)
+            yield from sheet_tick_cases(f"itself-elapsed-{elapsed}-word-{word}", wait, (0, elapsed), word)
         for at in (1, 2, 3):
             for elapsed in (0, 5, 999, 3999):
-                yield table_case(f"itself-cell-{at}-elapsed-{elapsed}-word-{word}", table, (at, elapsed), word)
+                yield from table_cases(f"itself-cell-{at}-elapsed-{elapsed}-word-{word}", table, (at, elapsed), word)
 
 
 BAD_CELLS = [
@@ -147,11 +196,11 @@ GOOD_CELLS = [
 def cell_cases():
     """Every edge of every field of a cell: met as the current cell, entered, and passed by."""
     for pairs in GOOD_CELLS + BAD_CELLS:
-        name = joined(pairs)
+        name = words(pairs)
         into = cell("mask", 1, "fault next", 1, "outputs", 3)
-        yield table_case(f"at-{name}", [into, cell(*pairs), cell()], (1, 0), 0)
-        yield table_case(f"into-{name}", [into, cell(*pairs), cell()], (0, 0), 1)
-        yield table_case(f"past-{name}", [into, cell(), cell(*pairs)], (0, 0), 1)
+        yield from table_cases(f"at-{name}", [into, cell(*pairs), cell()], (1, 0), 0)
+        yield from table_cases(f"into-{name}", [into, cell(*pairs), cell()], (0, 0), 1)
+        yield from table_cases(f"past-{name}", [into, cell(), cell(*pairs)], (0, 0), 1)
 
 
 def order_cases():
@@ -161,35 +210,35 @@ def order_cases():
     for at in (0, 1, 2, 62, 63, 255):
         for elapsed in (0, 2, 65535):
             for word in (0, 1024):
-                yield table_case(f"bad-at-{at}-elapsed-{elapsed}-word-{word}", bad, (at, elapsed), word)
-                yield table_case(f"good-at-{at}-elapsed-{elapsed}-word-{word}", good, (at, elapsed), word)
-                yield sheet_case(f"good-at-{at}-elapsed-{elapsed}-word-{word}", waits([2]), (at, elapsed), word)
-    yield table_case("bad-in-the-middle", [cell(), *bad, cell()], (1, 9), 1024)
-    yield table_case("bad-last-of-63", [cell()] * 62 + bad, (62, 0), 0)
-    yield table_case("good-last-of-63", [cell()] * 62 + [cell("step", 62, "outputs", 5)], (62, 0), 0)
-    yield sheet_case("tags-A-B-B-A", [step(5), step(6), step(6), step(5)], START, 0)
+                yield from table_cases(f"bad-at-{at}-elapsed-{elapsed}-word-{word}", bad, (at, elapsed), word)
+                yield from table_cases(f"good-at-{at}-elapsed-{elapsed}-word-{word}", good, (at, elapsed), word)
+                yield from sheet_tick_cases(f"good-at-{at}-elapsed-{elapsed}-word-{word}", waits([2]), (at, elapsed), word)
+    yield from table_cases("bad-in-the-middle", [cell(), *bad, cell()], (1, 9), 1024)
+    yield from table_cases("bad-last-of-63", [cell()] * 62 + bad, (62, 0), 0)
+    yield from table_cases("good-last-of-63", [cell()] * 62 + [cell("step", 62, "outputs", 5)], (62, 0), 0)
+    yield from sheet_tick_cases("tags-A-B-B-A", [step(5), step(6), step(6), step(5)], START, 0)
     for name, bad in {"4": step(8, "level", 1), "5": step(1), "6": step(8, "mask", 1, "fault jump", 99)}.items():
         for at, elapsed, word in ((0, 0, 0), (200, 0, 0), (0, 9, 0), (0, 0, 1024), (1, 65535, 65535)):
-            yield sheet_case(f"refused-{name}-at-{at}-{elapsed}-{word}", [*waits([2]), bad], (at, elapsed), word)
+            yield from sheet_tick_cases(f"refused-{name}-at-{at}-{elapsed}-{word}", [*waits([2]), bad], (at, elapsed), word)
 
 
 def length_cases():
     for length in (0, 1, 11, 12, 13, 23, 24, 25, 744, 755, 756, 757, 767, 768):
-        yield table_case(f"length-{length}", bytes(length), (0, 0), 0)
-        yield table_case(f"length-{length}-state-beyond", bytes(length), (64, 9), 1024)
+        yield from table_cases(f"length-{length}", bytes(length), (0, 0), 0)
+        yield from table_cases(f"length-{length}-state-beyond", bytes(length), (64, 9), 1024)
     long = sheet_of(plain(65))
     for length in (0, 1, 15, 16, 17, 32, 1007, 1008, 1009, 1024, 1040):
-        yield sheet_case(f"length-{length}", long[:length], (0, 0), 0)
-        yield sheet_case(f"length-{length}-state-beyond", long[:length], (64, 9), 1024)
-    yield sheet_case("last-of-63", long[:1008], (62, 0), 0)
-    yield sheet_case("beyond-63", long[:1008], (63, 0), 0)
+        yield from sheet_tick_cases(f"length-{length}", long[:length], (0, 0), 0)
+        yield from sheet_tick_cases(f"length-{length}-state-beyond", long[:length], (64, 9), 1024)
+    yield from sheet_tick_cases("last-of-63", long[:1008], (62, 0), 0)
+    yield from sheet_tick_cases("beyond-63", long[:1008], (63, 0), 0)
 
 
 def many_cell_cases():
     """A sheet that needs more than 63 cells still runs."""
     many = waits([40000] * 63)
     for at, elapsed in ((0, 0), (0, 39999), (62, 39999), (62, 40000), (30, 20000)):
-        yield sheet_case(f"630-cells-at-{at}-elapsed-{elapsed}", many, (at, elapsed), 0)
+        yield from sheet_tick_cases(f"630-cells-at-{at}-elapsed-{elapsed}", many, (at, elapsed), 0)
 
 
 def tag_cases():
@@ -197,7 +246,7 @@ def tag_cases():
     steps = [three_exits(257, 1, 1, 1, 10, 257), three_exits(10, 2, 1, 257, 1, 10), three_exits(1, 4, 1, 10, 257, 1)]
     for at in range(3):
         for word in (0, 1, 2):
-            yield sheet_case(f"tags-at-{at}-word-{word}", steps, (at, 0), word)
+            yield from sheet_tick_cases(f"tags-at-{at}-word-{word}", steps, (at, 0), word)
 
 
 def stretches_by_chance(chance, sheet, ticks):
@@ -224,37 +273,37 @@ NIGHT = [
 ]
 
 
-def chance_run_cases(count, seed, ticks, longest):
+def chance_run_cases(count, seed, ticks, longest, last=None):
     """A sheet by chance and its table side by side."""
     chance = random.Random(seed)
     made = 0
     while made < count:
         sheet = chance_sheet(chance, longest)
-        if sheet_verdict(sheet) == ACCEPTED and len(translated_cells(sheet)) * CELL <= ROOM:
-            yield run_case(f"chance-{seed}-{made}", sheet, stretches_by_chance(chance, sheet, ticks))
+        if sheet_verdict(sheet) == ACCEPTED and len(translated_cells(sheet)) <= MOST:
+            yield from run_cases(f"chance-{seed}-{made}", sheet, stretches_by_chance(chance, sheet, ticks), last=last)
             made += 1
 
 
 def chosen_run_cases():
-    yield run_case("paper", PAPER, [(0, 4999), (0, 1), (0, 3), (1, 1), (0, 4000), (1, 1000), (0, 5)])
-    yield run_case("recorder", RECORDER, NIGHT)
-    yield run_case("waits", sheet_of(waits([4000, 4001, 3999, 8000, 8001, 1, 2, 12000])), [(0, 41000)])
-    yield run_case("40000", sheet_of(waits([1, 40000])), [(0, 40003)])
+    yield from run_cases("paper", PAPER, [(0, 4999), (0, 1), (0, 3), (1, 1), (0, 4000), (1, 1000), (0, 5)])
+    yield from run_cases("recorder", RECORDER, NIGHT)
+    yield from run_cases("waits", sheet_of(waits([4000, 4001, 3999, 8000, 8001, 1, 2, 12000])), [(0, 41000)])
+    yield from run_cases("40000", sheet_of(waits([1, 40000])), [(0, 40003)])
     wait = three_exits(5, 7, 9000, 5, 6, 5)
     back = step(6, "outputs", 8, "channel", 2, "sequence jump", 5)
-    yield run_case("itself", sheet_of([wait, back]), [
+    yield from run_cases("itself", sheet_of([wait, back]), [
         (0, 4100), (1, 1), (0, 8500), (1, 2), (0, 9000), (0, 4005), (2, 1), (0, 1), (0, 9001), (1, 1)])
     for word in (1, 2):
-        yield run_case(f"second-cell-word-{word}", sheet_of([wait, back]), [(0, 4005), (word, 1), (0, 3)])
-    yield run_case("no-exit", sheet_of(plain(3)), [(0, 5), (1023, 5)])
-    yield run_case("63-steps", sheet_of(waits([1] * 62 + [3])), [(0, 200)])
-    yield run_case("no-words", RECORDER, [])
-    yield run_case("a-bad-word", RECORDER, [(0, 3), (1024, 2), (0, 3)])
+        yield from run_cases(f"second-cell-word-{word}", sheet_of([wait, back]), [(0, 4005), (word, 1), (0, 3)])
+    yield from run_cases("no-exit", sheet_of(plain(3)), [(0, 5), (1023, 5)])
+    yield from run_cases("63-steps", sheet_of(waits([1] * 62 + [3])), [(0, 200)], first=60)
+    yield from run_cases("no-words", RECORDER, [])
+    yield from run_cases("a-bad-word", RECORDER, [(0, 3), (1024, 2), (0, 3)])
 
 
 def chosen_cases():
     return [*exit_cases(), *long_wait_cases(), *itself_cases(), *cell_cases(), *order_cases(), *length_cases(), *many_cell_cases(),
-            *tag_cases(), *chosen_run_cases(), *chance_run_cases(12, 1, 6000, 9)]
+            *tag_cases(), *chosen_run_cases(), *chance_run_cases(12, 1, 6000, 9, last=30)]
 
 
 def chance_table(chance):
@@ -281,52 +330,11 @@ def all_cases():
             fields = ("mask", 0x0A5, *(("channel", channel, "level", level) if channel else ()), "timeout", 2)
             for word in range(0, 1024):
                 name = f"every-{channel}-{level}-{word}"
-                yield table_case(name, four_cells(*fields), (0, word % 2), word)
-                yield sheet_case(name, four_steps(*fields), (0, word % 2), word)
+                yield from table_cases(name, four_cells(*fields), (0, word % 2), word)
+                yield from sheet_tick_cases(name, four_steps(*fields), (0, word % 2), word)
     chance = random.Random(3)
     for turn in range(20000):
         table, count = chance_table(chance)
         state = (chance.choice((chance.randrange(count), count - 1, count, 0)), chance.choice((0, 0, 1, chance.randrange(4001))))
-        yield table_case(f"chance-{turn}", table, state, chance.choice((chance.randrange(1024), chance.randrange(1024), 1024)))
+        yield from table_cases(f"chance-{turn}", table, state, chance.choice((chance.randrange(1024), chance.randrange(1024), 1024)))
     yield from chance_run_cases(300, 4, 20000, 30)
-
-
-def row_of(name, kind, data, state, word, stretches):
-    assert len(name) <= NAME_LENGTH, name
-    row = name.encode("ascii").ljust(NAME_LENGTH, b"\0") + bytes([kind, len(stretches), state[0], 0])
-    for number in (state[1], word, len(data)):
-        row += number.to_bytes(2, "little")
-    return row + data + b"".join(part.to_bytes(2, "little") for stretch in stretches for part in stretch)
-
-
-def digest(before, answer):
-    """Every number of every answer counts."""
-    for number in answer:
-        before = (before * 65599 + number + 1) % 4294967296
-    return before
-
-
-def run_line(name, sheet, stretches):
-    table = translation(sheet, ROOM)[1]
-    words = [word for word, count in stretches for _ in range(count)]
-    one, other = tick_sheet(sheet, START), tick_table(table, START)
-    digests = digest(0, one), digest(0, other)
-    for word in words:
-        one, other = tick_sheet(sheet, one[2:4], word), tick_table(table, other[2:4], word)
-        assert one[4:] == other[4:]
-        digests = digest(digests[0], one), digest(digests[1], other)
-    last = [name, "ticks", len(words), "differ 0 sheet", *one, digests[0], "table", *other, digests[1]]
-    return " ".join(map(str, last))
-
-
-def line_of(name, kind, data, state, word, stretches):
-    if kind == RUN:
-        return run_line(name, data, stretches)
-    tick, whole = ((tick_table, table_verdict), (tick_sheet, sheet_verdict))[kind]
-    numbers = [*tick(data, state, word), "show", *tick(data, state), "whole", *whole(data)]
-    return " ".join([name, *map(str, numbers)])
-
-
-if __name__ == "__main__":
-    vectors.write(__doc__, lambda: dict.fromkeys(chosen_cases()), lambda: dict.fromkeys(all_cases()),
-                  lambda one: row_of(*one), lambda one: [line_of(*one)], named=True)

@@ -9,6 +9,7 @@ LENGTH = 80
 
 # Numbers given back.
 WRONG_LENGTH, RESERVED, UNPRINTED, OUT_OF_RANGE = 1, 2, 3, 4
+ACCEPTED = (0, 0)
 
 DELAYS = [0, 5, 10, 20, 30, 50, 75, 100]
 PULSES = [10, 100, 1000, 10000]
@@ -73,7 +74,7 @@ def image_verdict(image):
         number = byte_number(address // 8, address % 8, value)
         if number:
             return (number, address)
-    return (0, 0)
+    return ACCEPTED
 
 
 def group_settings(k, part):
@@ -99,6 +100,20 @@ def group_settings(k, part):
 def settings_of(image):
     """The ten groups of an accepted image."""
     return [group_settings(k, image[8 * k:8 * k + 8]) for k in range(10)]
+
+
+def zero_group(k):
+    """Zero in every field, code 0 for a named kind."""
+    zeros = {name: KINDS[name][0] if name in KINDS else 0 for name in FIELDS}
+    return {**zeros, "input": INPUTS[family(k)][0]}
+
+
+def reading(image):
+    """The verdict, and the settings that the reader answers."""
+    verdict = image_verdict(image)
+    if verdict != ACCEPTED:
+        return verdict, [zero_group(k) for k in range(10)]
+    return ACCEPTED, settings_of(image)
 
 
 def normal_byte(k, j, value):
@@ -138,7 +153,7 @@ def setting_faults(k, group):
 
 def settings_verdict(settings):
     bad = [8 * k + offset for k, group in enumerate(settings) for offset in setting_faults(k, group)]
-    return (OUT_OF_RANGE, min(bad)) if bad else (0, 0)
+    return (OUT_OF_RANGE, min(bad)) if bad else ACCEPTED
 
 
 def write_verdict(settings, length):
@@ -166,3 +181,9 @@ def group_bytes(k, group):
 
 def written_image(settings):
     return b"".join(group_bytes(k, group) for k, group in enumerate(settings))
+
+
+def writing(settings, lent):
+    """The writer's verdict, and the lent buffer after it."""
+    verdict = write_verdict(settings, len(lent))
+    return verdict, written_image(settings) if verdict == ACCEPTED else lent

@@ -1,23 +1,12 @@
-#!/usr/bin/env python3
-"""Writes the rows that reading_test reads and the lines that it must print, by the paper.
+"""Cases of the reader: the chosen images, and every change of one byte of the blank image.
 
-  python3 tests/image_vectors.py FOLDER         the chosen rows, into FOLDER/stdin and FOLDER/stdout
-  python3 tests/image_vectors.py --all FOLDER   every change of one byte of the blank image
-
-The chosen rows stand in crates/reading_test. To try them all:
-
-  python3 tests/image_vectors.py --all target/all
-  ./wrackbasket reading_test target/all/stdin | cmp - target/all/stdout
-
-A row is five bytes: the length, then two changes of an address and a value each, made in that order
-to the blank image, followed by zeros where it is longer. A change at or past the length is none."""
+The settings that the reader answers are written again. The eighty bytes for it are lent where an image is accepted or has
+another length; a refused image of eighty bytes lends none, which keeps the stream short."""
 import itertools
 
-import vectors
-from image_model import CHANNELS, LENGTH, family, image_verdict, normal_image, numbers
-from image_model import reserved_bits, settings_of, written_image
-
-NONE = (255, 0)
+from cases import READ, Case, pattern, settings_bytes, verdict_bytes
+from image_model import ACCEPTED, CHANNELS, LENGTH, family, normal_image, reading
+from image_model import reserved_bits, settings_verdict, writing
 
 # The values on each side of each field's edges, tried on one group of each kind.
 KINDS_TRIED = [2, 4, 6]
@@ -42,92 +31,76 @@ BAD = [(0x01, 0x20), (0x06, 0x01), (0x07, 0x0C), (0x09, 0xE0), (0x25, 0x02), (0x
 GOOD = [(0x00, 0xC8), (0x05, 0x03), (0x27, 0x33), (0x2E, 0x7F), (0x4F, 0x3F)]
 
 
-def length_rows():
+def image_case(*changes, length=LENGTH):
+    """The blank image cut or followed by zeros to the length, and changed at addresses to values."""
+    image = bytearray(length)
+    for address, value in changes:
+        image[address] = value
+    parts = [] if length == LENGTH else [f"length-{length}"]
+    parts += [f"{place_name(address)}-0x{value:02x}" for address, value in changes]
+    return read_case("-".join(["read", *(parts or ["blank"])]), bytes(image))
+
+
+def place_name(address):
+    return f"{CHANNELS[address // 8]}-byte-{address % 8}" if address < LENGTH else f"address-{address}"
+
+
+def read_case(name, image):
+    verdict, settings = reading(image)
+    lent = b"" if verdict != ACCEPTED and len(image) == LENGTH else pattern(LENGTH)
+    write_verdict, written = writing(settings, lent)
+    assert verdict != ACCEPTED or written == normal_image(image), name
+    verdicts = verdict_bytes(settings_verdict(settings)) + verdict_bytes(write_verdict)
+    return Case(name, READ, image, lent, verdict_bytes(verdict) + settings_bytes(settings) + verdicts + written)
+
+
+def length_cases():
     for length in (0, 1, 79, 80, 81, 255):
-        yield (length, NONE, NONE)
+        yield image_case(length=length)
     for length in (1, 79, 81):
-        yield (length, (0x00, 0xFF), NONE)
-        yield (length, (0x01 if length > 1 else 0x00, 0xFF), (0x07, 0x40))
-    yield (81, (0x50, 0xFF), NONE)
-    yield (80, (0x50, 0xFF), NONE)
+        yield image_case((0x00, 0xFF), length=length)
+    for length in (79, 81):
+        yield image_case((0x01, 0xFF), (0x07, 0x40), length=length)
+    yield image_case((0x50, 0xFF), length=81)
 
 
-def edge_rows():
+def edge_cases():
     """The edges of each kind of group, each reserved bit alone, and the limits of every group."""
     for k in KINDS_TRIED:
         for j, values in EDGES.items():
             alone = [1 << bit for bit in range(8) if reserved_bits(k, j) >> bit & 1]
-            yield from one_byte_rows(k, j, values + alone)
+            yield from one_byte_cases(k, j, values + alone)
     for k in range(len(CHANNELS)):
         for j, values in LIMITS.items():
-            yield from one_byte_rows(k, j, values)
+            yield from one_byte_cases(k, j, values)
 
 
-def code_rows():
-    """Every code of every field of bytes 4, 6 and 7, on one group of each kind; byte 5's are edges."""
+def code_cases():
+    """Every code of every field of bytes 4, 6 and 7, on one group of each kind; byte 5's are edges. Then the paper's output bytes."""
     for k in KINDS_TRIED:
-        yield from one_byte_rows(k, 4, [4 * code + code % 4 for code in range(8)])
+        yield from one_byte_cases(k, 4, [4 * code + code % 4 for code in range(8)])
         if family(k) == "VX":
-            yield from one_byte_rows(k, 6, [32 * (code % 4) + 8 * (code // 2) + code for code in range(8)])
-        yield from one_byte_rows(k, 7, range(0x10, 0x20))
-        yield from one_byte_rows(k, 7, range(0x00, 0x80, 0x10))
+            yield from one_byte_cases(k, 6, [32 * (code % 4) + 8 * (code // 2) + code for code in range(8)])
+        yield from one_byte_cases(k, 7, range(0x10, 0x20))
+        yield from one_byte_cases(k, 7, range(0x00, 0x80, 0x10))
+    yield from one_byte_cases(0, 7, [0x10, 0x11, 0x1C, 0x40, 0x80, 0xC0])
 
 
-def one_byte_rows(k, j, values):
+def one_byte_cases(k, j, values):
     for value in values:
-        yield (LENGTH, (8 * k + j, value), NONE)
+        yield image_case((8 * k + j, value))
 
 
-def pair_rows():
-    """Two changes at once: the lowest bad address is reported, whatever its number and the order."""
-    pairs = [*itertools.combinations(BAD, 2), *itertools.combinations(GOOD, 2), *itertools.product(GOOD, BAD[1::3])]
-    for turn, (one, other) in enumerate(pairs):
-        yield (LENGTH, one, other) if turn % 2 else (LENGTH, other, one)
-    yield (LENGTH, (0x07, 0x40), (0x07, 0x10))
-    yield (LENGTH, (0x07, 0x10), (0x07, 0x40))
+def pair_cases():
+    """Two changes at once: the lowest bad address is reported, whatever its number."""
+    for pair in (*itertools.combinations(BAD, 2), *itertools.combinations(GOOD, 2), *itertools.product(GOOD, BAD[1::3])):
+        yield image_case(*sorted(pair))
 
 
-def chosen_rows():
-    rows = [*length_rows(), *edge_rows(), *code_rows(), *pair_rows()]
-    return list(dict.fromkeys(rows))
+def chosen_cases():
+    return [*length_cases(), *edge_cases(), *code_cases(), *pair_cases()]
 
 
-def all_rows():
-    return [(LENGTH, (address, value), NONE) for address in range(LENGTH) for value in range(1, 256)]
-
-
-def image_of(row):
-    length, *changes = row
-    image = bytearray(length)
-    for address, value in changes:
-        if address < length:
-            image[address] = value
-    return bytes(image)
-
-
-def accepted_line(image, k):
-    normal = normal_image(image)
-    assert written_image(settings_of(image)) == normal
-    others = normal[:8 * k] + normal[8 * k + 8:]
-    fields = " ".join(str(n) for n in numbers(settings_of(image)[k]))
-    rest = "not zero" if any(others) else "zero"
-    return f"group {k} {fields} written 0 0 {normal[8 * k:8 * k + 8].hex()} others {rest}"
-
-
-def line_of(row):
-    length, first, second = row
-    image = image_of(row)
-    number, place = image_verdict(image)
-    start = f"{length} {first[0]} {first[1]} {second[0]} {second[1]}"
-    if number:
-        return f"{start} refused {number} {place} settings zero"
-    return f"{start} {accepted_line(image, first[0] // 8 if first[0] < LENGTH else 0)}"
-
-
-def row_of(row):
-    length, first, second = row
-    return bytes([length, *first, *second])
-
-
-if __name__ == "__main__":
-    vectors.write(__doc__, chosen_rows, all_rows, row_of, lambda row: [line_of(row)])
+def all_cases():
+    for address in range(LENGTH):
+        yield from one_byte_cases(address // 8, address % 8, range(1, 256))

@@ -77,7 +77,7 @@ def is_step_in_range(step):
 
 
 def is_cell_in_range(cell, count):
-    nexts = all(cell[f"{exit} next"] < (count if cell[part] else 1) for exit, part in EXITS.items())
+    nexts = all(cell[f"{exit} next"] < count and (cell[part] or cell[f"{exit} next"] == 0) for exit, part in EXITS.items())
     return is_common_part_in_range(cell) and cell["step"] <= MOST - 1 and cell["timeout"] <= LONGEST_CELL and nexts
 
 
@@ -102,7 +102,12 @@ def sheet_verdict(sheet):
 
 @functools.cache
 def cell_verdict(table, k):
+    """The length, the cell's number, that cell."""
+    if length_verdict(CELL, table) != ACCEPTED:
+        return (WRONG_LENGTH, 0)
     cells = cells_of(table)
+    if k >= len(cells):
+        return (UNREACHABLE, 0)
     return ACCEPTED if is_cell_in_range(cells[k], len(cells)) else (OUT_OF_RANGE, k)
 
 
@@ -193,13 +198,12 @@ def refused(verdict, state):
 
 def tick_table(table, state, word=None):
     at, elapsed = state
-    if length_verdict(CELL, table) != ACCEPTED:
-        return refused((WRONG_LENGTH, 0), state)
+    verdict = cell_verdict(table, at)
+    if verdict != ACCEPTED:
+        return refused(verdict, state)
     cells = cells_of(table)
-    if at >= len(cells):
-        return refused((UNREACHABLE, 0), state)
     cell = cells[at]
-    verdict = first([cell_verdict(table, at), elapsed_verdict(cell, elapsed), word_verdict(word)])
+    verdict = first([elapsed_verdict(cell, elapsed), word_verdict(word)])
     if verdict != ACCEPTED:
         return refused(verdict, state)
     if word is not None:

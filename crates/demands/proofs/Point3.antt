@@ -25,7 +25,7 @@ use Rattle.engine.specs.declared.answer.Ticked.{Ticked}
 use Rattle.translator.specs.Translation.{cellsOf, firstCell, cellTotal, cutAt, tableOf, translationVerdict, translation, translated}
 use Rattle.translator.proofs.CellCounts.{sum}
 use Rattle.translator.proofs.CellCounts as counts
-use Rattle.translation_laws.proofs.AcceptedTable.{AcceptedCell, AcceptedTable}
+use Rattle.translation_laws.proofs.AcceptedTable.{TableLength, AcceptedCell, AcceptedTable}
 use Rattle.translation_laws.proofs.AcceptedTable as tables
 use Rattle.translation_laws.proofs.RefusedSheet as refused-sheets
 use Rattle.translation_laws.proofs.RefusedTable as refused-tables
@@ -149,8 +149,9 @@ table-refused = refused-tables.refused-shows
 pub table-refusals : (table : List ℕ) → ¬ (tableVerdict table .number ≡ 0) → refused-tables.Refused table (tableVerdict table)
 table-refusals = refused-tables.shows-refused
 
--- The verdict of one cell accepts exactly the cells that the paper's rules allow.
-pub cell-accepted : (table : List ℕ) (k : ℕ) → (cellVerdict table k .number ≡ 0) ↔ AcceptedCell (cellCount table) (cellAt table k)
+-- The verdict of one cell accepts exactly the cells of a table of the right length that the paper's rules allow.
+pub cell-accepted : (table : List ℕ) (k : ℕ)
+    → (cellVerdict table k .number ≡ 0) ↔ (TableLength table × (k < cellCount table) × AcceptedCell (cellCount table) (cellAt table k))
 cell-accepted = tables.verdict-accepted
 
 -- A table that passes the whole-table verdict refuses no tick from an accepted state with a word below 1024, and the state is accepted again.

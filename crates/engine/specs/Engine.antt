@@ -3,26 +3,24 @@ use Prim.Native.Nat.{ℕ}
 use mathlib.Core.Bool.{Bool, cond}
 use mathlib.Core.List.{List, [], _∷_}
 use lib.Dec.{ltb, eqb}
-use Rattle.records.specs.Numbers.{wrong-length, unreachable, bad-word}
+use Rattle.records.specs.Numbers.{unreachable, bad-word}
 use Rattle.records.specs.Verdicts.{refusedUnless, firstRefusal}
 use Rattle.records.specs.declared.verdict.Verdict.{Verdict}
 use Rattle.machine.specs.Fields.{wordInRange, elapsedInRange}
 use Rattle.machine.specs.Machine.{tickOn}
 use Rattle.machine.specs.declared.node.Node.{Node}
 use Rattle.machine.specs.declared.state.State.{State}
-use Rattle.tables.specs.Tables.{isTable, cellCount, cellAt, cellVerdict}
+use Rattle.tables.specs.Tables.{cellAt, cellVerdict}
 use Rattle.sheets.specs.Sheets.{sheetVerdict, stepCount, nodeAt}
 use Rattle.engine.specs.declared.answer.Ticked.{Ticked}
 
 -- ---- the tests
 
--- "On a table the engine tests length, cell number (8), that cell (4), elapsed below the larger of 1 and the timeout (8)"
+-- "On a table the engine tests length, cell number (8), that cell (4)", the three tests of a cell's verdict, "elapsed below the larger of 1 and the timeout (8)"
 unfoldable pub tableStateVerdict : List ℕ → State → Verdict
 tableStateVerdict table state =
     firstRefusal
-    (refusedUnless (isTable table) wrong-length 0
-    ∷ refusedUnless (ltb (state .at) (cellCount table)) unreachable 0
-    ∷ cellVerdict table (state .at)
+    (cellVerdict table (state .at)
     ∷ refusedUnless (elapsedInRange (cellAt table (state .at) .timeout) (state .elapsed)) unreachable 0
     ∷ [])
 

@@ -7,7 +7,6 @@ use machine::State;
 use records::BAD_WORD;
 use records::UNREACHABLE;
 use records::Verdict;
-use records::WRONG_LENGTH;
 use records::refuse_unless;
 use tables::cell_at;
 use tables::cell_verdict;
@@ -44,13 +43,6 @@ pub fn show_table(table: &[u8], state: State) -> Ticked
 fn table_state_verdict(table: &[u8], state: State) -> Verdict
     ensures { λ r. ⌜ r ≡ tableStateVerdict (now (table .entry)) state ⌝ }
 {
-    let length = table.len();
-    if length < 12 || length > 756 || length % 12 != 0 {
-        return refuse_unless(false, WRONG_LENGTH, 0);
-    }
-    if (state.at as usize) >= length / 12 {
-        return refuse_unless(false, UNREACHABLE, 0);
-    }
     let verdict = cell_verdict(table, state.at);
     if verdict.number != 0 {
         return verdict;

@@ -6,7 +6,7 @@ use lib.Dec.{ltb, leb, eqb}
 use lib.ListN.{length, getD}
 use Rattle.records.specs.Words.{wordAt, lowByte, highByte}
 use Rattle.records.specs.Lists.{each}
-use Rattle.records.specs.Numbers.{wrong-length, out-of-range}
+use Rattle.records.specs.Numbers.{wrong-length, out-of-range, unreachable}
 use Rattle.records.specs.Verdicts.{refusedUnless, firstRefusal}
 use Rattle.records.specs.declared.verdict.Verdict.{Verdict}
 use Rattle.machine.specs.Fields.{outputsInRange, maskInRange, channelInRange, levelInRange, levelAllowed, range-fault, jump-without-exit, level-without-channel}
@@ -86,8 +86,20 @@ unfoldable pub isTable : List ℕ → Bool
 isTable table = leb 12 (length table) && leb (length table) 756 && eqb (length table % 12) 0
 
 -- "4 | a field ... out of its range | ... cell"
-unfoldable pub cellVerdict : List ℕ → ℕ → Verdict
-cellVerdict table k = refusedUnless (eqb (cellFault (cellCount table) (cellAt table k) .number) 0) out-of-range k
+unfoldable pub fieldsVerdict : List ℕ → ℕ → Verdict
+fieldsVerdict table k = refusedUnless (eqb (cellFault (cellCount table) (cellAt table k) .number) 0) out-of-range k
 
+-- the tests of one cell: "length, cell number (8), that cell (4)"
+unfoldable pub cellTests : List ℕ → ℕ → List Verdict
+cellTests table k =
+    refusedUnless (isTable table) wrong-length 0
+    ∷ refusedUnless (ltb k (cellCount table)) unreachable 0
+    ∷ fieldsVerdict table k
+    ∷ []
+
+unfoldable pub cellVerdict : List ℕ → ℕ → Verdict
+cellVerdict table k = firstRefusal (cellTests table k)
+
+-- the length, then every cell; the lowest is named
 unfoldable pub tableVerdict : List ℕ → Verdict
-tableVerdict table = firstRefusal (refusedUnless (isTable table) wrong-length 0 ∷ each (cellVerdict table) 0 (cellCount table))
+tableVerdict table = firstRefusal (refusedUnless (isTable table) wrong-length 0 ∷ each (fieldsVerdict table) 0 (cellCount table))

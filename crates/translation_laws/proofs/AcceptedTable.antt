@@ -16,7 +16,7 @@ use Rattle.records.proofs.TestLaws.{lt-test, le-test, eq-test, absent-test, unl
 use Rattle.machine.specs.declared.node.Node.{Node}
 use Rattle.machine.proofs.FieldLaws.{outputs-range, mask-range, channel-range, level-range, level-allowed}
 use Rattle.machine.proofs.StandLaws.{Leads, AbsentExits}
-use Rattle.tables.specs.Tables.{cellAt, nextFault, cellFault, cellCount, isTable, cellVerdict, tableVerdict}
+use Rattle.tables.specs.Tables.{cellAt, nextFault, cellFault, cellCount, isTable, fieldsVerdict, cellTests, cellVerdict, tableVerdict}
 
 -- "next below the number of cells, and 0 where the exit is absent"
 pub next-accepted : (cells field next offset : ℕ)
@@ -108,19 +108,37 @@ module _ (table : List ℕ) where
   cell-means : (k : ℕ) → (eqb (cellFault (cellCount table) (cellAt table k) .number) 0 ≡ true) ↔ AcceptedCell (cellCount table) (cellAt table k)
   cell-means k = (λ e. cell-accepted _ _ .0 (eq-test _ _ .0 e), λ a. eq-test _ _ .1 (cell-accepted _ _ .1 a))
 
+  -- one cell's fields
+  fields-accepted : (k : ℕ) → (fieldsVerdict table k .number ≡ 0) ↔ AcceptedCell (cellCount table) (cellAt table k)
+  unfolding fieldsVerdict
+  fields-accepted k = (unless-passed (cell-means k) _ _ (omega arith), unless-passes (cell-means k) _ _)
+
   -- one cell's verdict
-  pub verdict-accepted : (k : ℕ) → (cellVerdict table k .number ≡ 0) ↔ AcceptedCell (cellCount table) (cellAt table k)
-  unfolding cellVerdict
-  verdict-accepted k = (unless-passed (cell-means k) _ _ (omega arith), unless-passes (cell-means k) _ _)
+  pub verdict-accepted : (k : ℕ)
+      → (cellVerdict table k .number ≡ 0) ↔ (TableLength table × (k < cellCount table) × AcceptedCell (cellCount table) (cellAt table k))
+  unfolding cellVerdict cellTests
+  verdict-accepted k = (
+    λ e. (
+      unless-passed length-accepted _ _ (omega arith) (accepted-passes _ e 0),
+      unless-passed (lt-test _ _) _ _ (omega arith) (accepted-passes _ e 1),
+      fields-accepted k .0 (accepted-passes _ e 2),
+    ),
+    λ h.
+        all-zero _ (
+        unless-passes length-accepted _ _ (h .0) also
+        unless-passes (lt-test _ _) _ _ (h .1) also
+        fields-accepted k .1 (h .2) also
+        none),
+  )
 
   -- "4 | a field ... out of its range | ... cell"
-  pub cells-test : NamesLowest (firstRefusal (each (cellVerdict table) 0 (cellCount table))) 4 (cellCount table)
+  pub cells-test : NamesLowest (firstRefusal (each (fieldsVerdict table) 0 (cellCount table))) 4 (cellCount table)
       (λ k. AcceptedCell (cellCount table) (cellAt table k))
-  unfolding cellVerdict
+  unfolding fieldsVerdict
   cells-test = names-lowest _ _ _ (omega arith) _ cell-means
 
   -- the length first, and then the cells
-  pub verdict-parts : tableVerdict table ≡ orElse (refusedUnless (isTable table) 1 0) (firstRefusal (each (cellVerdict table) 0 (cellCount table)))
+  pub verdict-parts : tableVerdict table ≡ orElse (refusedUnless (isTable table) 1 0) (firstRefusal (each (fieldsVerdict table) 0 (cellCount table)))
   unfolding tableVerdict
   verdict-parts = first-cons _ _
 

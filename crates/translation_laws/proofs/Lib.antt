@@ -6,4 +6,5 @@ pub mod Simulation
 pub mod TranslatedTable
 pub mod TranslationLaws
 pub mod ThirdPoint
+pub mod RunOutputs
 pub mod WholeTags

@@ -9,7 +9,7 @@ use Rattle.records.specs.Lists.{each}
 use Rattle.records.specs.declared.verdict.Verdict.{Verdict}
 use Rattle.records.proofs.VerdictLaws.{orElse-pass}
 use Rattle.records.proofs.TestLaws.{unless-passed, unless-passes, unless-shows, refusal-shows, LowestWithout}
-use Rattle.tables.specs.Tables.{isTable, cellCount, cellAt, cellVerdict, tableVerdict}
+use Rattle.tables.specs.Tables.{isTable, cellCount, cellAt, fieldsVerdict, tableVerdict}
 use Rattle.translation_laws.proofs.AcceptedTable.{AcceptedCell, TableLength, length-accepted, cells-test, verdict-parts, table-accepted}
 
 -- the length first; then the lowest cell that is out of range
@@ -39,7 +39,7 @@ module _ (table : List ℕ) where
     where
       sized : TableLength table → Refused table (tableVerdict table)
       sized h =
-          elim (ℕ-discrete (firstRefusal (each (cellVerdict table) 0 (cellCount table)) .number) 0) [
+          elim (ℕ-discrete (firstRefusal (each (fieldsVerdict table) 0 (cellCount table)) .number) 0) [
             | no p ↦ (let low = cells-test table .refuses p in it (by-cell (low .0) h (low .1)))
             | yes p ↦ absurd (r (table-accepted table .1 (record { size = h; cells = cells-test table .accepts .0 p })))
           ]

@@ -117,14 +117,12 @@ module _ (table : List ℕ) (a : tableVerdict table .number ≡ 0) where
   table-state state = (
     λ e.
         record {
-          within = unless-passed (lt-test _ _) _ _ (omega arith) (accepted-passes _ e 1);
-          early = unless-passed (elapsed-range _ _) _ _ (omega arith) (accepted-passes _ e 3);
+          within = tables.verdict-accepted table (state .at) .0 (accepted-passes _ e 0) .1;
+          early = unless-passed (elapsed-range _ _) _ _ (omega arith) (accepted-passes _ e 1);
         },
     λ h.
         all-zero _ (
-        unless-passes (tables.length-accepted table) _ _ (all .size) also
-        unless-passes (lt-test _ _) _ _ (h .within) also
-        tables.verdict-accepted table (state .at) .1 (all .cells (state .at) (h .within)) also
+        tables.verdict-accepted table (state .at) .1 (all .size, h .within, all .cells (state .at) (h .within)) also
         unless-passes (elapsed-range _ _) _ _ (h .early) also
         none),
   )

@@ -1,79 +1,75 @@
 -- `tables::verdict::table_verdict` meets its contract. The loop's invariant: the cells that are left give the whole answer.
 -- The measure is their number. Assumes nothing.
 use Prim.Native.Nat.{_-_}
-use mathlib.Core.Path.{_≡_, ap, sym, _∙_}
-use mathlib.Core.Logic.{⊎-elim}
+use mathlib.Core.Path.{_≡_, sym, _∙_}
+use mathlib.Core.Bool.{true}
 use native.Mathlib.Omega.{arith}
-use lib.ListN.{length}
 use denote.Ref.{now}
 use borrow.Author.Needs.{needs}
-use borrow.Author.Tests.{ltb-false}
+use borrow.Author.Tests.{not-true, not-false}
 use Rattle.records.specs.Lists.{each}
 use Rattle.records.specs.Verdicts.{firstRefusal}
-use Rattle.records.specs.declared.verdict.Verdict.{Verdict}
-use Rattle.records.proofs.TestLaws.{sized, too-short, too-long, uneven}
-use Rattle.records.proofs.VerdictLaws.{search-hit, search-pass, search-end}
-use Rattle.tables.specs.Tables.{isTable, cellCount, cellVerdict, tableVerdict}
-use Rattle.tables.proofs.TableLaws.{table-refused, table-cells}
+use Rattle.records.proofs.VerdictLaws.{found-hit, found-pass, search-end}
+use Rattle.tables.specs.Tables.{isTable, cellCount, fieldsVerdict, tableVerdict}
+use Rattle.tables.proofs.TableLaws.{table-most, table-refused, table-cells}
 use Rattle.tables.proofs.verdict.table_verdict.Statement.{statement}
 use Rattle.tables.proofs.verdict.table_verdict.Tie as tie
 
 abbrev Inv-loop : tie.InvT-loop
-Inv-loop table length cells k₀ k = tableVerdict table ≡ firstRefusal (each (cellVerdict table) k (cellCount table - k))
+Inv-loop table cells k₀ k = tableVerdict table ≡ firstRefusal (each (fieldsVerdict table) k (cellCount table - k))
 
 abbrev μ-loop : tie.MeasureT-loop
-μ-loop table length cells k₀ k = cells - k
+μ-loop table cells k₀ k = cells - k
+
+is-table-requires : tie.Need-is-table-requires Inv-loop μ-loop
+is-table-requires c κs = search needs
 
 refuse-unless-requires : tie.Need-refuse-unless-requires Inv-loop μ-loop
 refuse-unless-requires c κs = search needs
 
 returns : tie.Need-returns Inv-loop μ-loop
-unfolding isTable
 returns c =
-    let n = length (now (c .before .before .before .args .table)) in
-    c .refuse-unless .ensures
-    ∙ table-refused _
-    (⊎-elim (λ w. too-short 12 756 12 n (w .taken))
-    (⊎-elim (λ w. too-long 12 756 12 n (w .0 .left) (w .1 .taken)) (λ w. uneven 12 756 12 n (w .0 .left) (w .1 .left) (w .2 .taken)))
-    (c .before .if1 .came))
+    let told = c .before .before in
+    c .refuse-unless .ensures ∙ table-refused _ (sym (told .is-table .ensures) ∙ not-true _ (c .before .if1 .taken))
+
+-- the length is a table's where the loop is reached
+right : (c : tie.Else1 Inv-loop μ-loop) → isTable (now (c .before .before .before .args .table)) ≡ true
+right c = sym (c .before .is-table .ensures) ∙ not-false _ (c .if1 .left)
 
 cast-cells : tie.Need-cast-cells Inv-loop μ-loop
-cast-cells c = omega (arith, ltb-false)
+cast-cells c = omega (arith, table-most _ (right c))
 
 loop-holds : tie.Need-loop-holds Inv-loop μ-loop
-unfolding isTable
-loop-holds c = table-cells _ (sized 12 756 12 _ (c .before .before .if1 .left) (c .before .if2 .left) (c .if3 .left))
+loop-holds c = table-cells _ (right c)
 
-cell-verdict-requires : tie.Need-cell-verdict-requires Inv-loop μ-loop
-cell-verdict-requires c κs = search needs
+fields-verdict-requires : tie.Need-fields-verdict-requires Inv-loop μ-loop
+fields-verdict-requires c κs = search needs
 
 returns-2 : tie.Need-returns-2 Inv-loop μ-loop
 unfolding cellCount
 returns-2 c =
     let told = c .before .before in
-    let top = told .before .before in
-    let table = now (top .before .before .before .before .before .args .table) in
-    told .cell-verdict .ensures
-    ∙ sym
-    (top .loop .inv
-    ∙ search-hit (cellVerdict table) (top .loop .k) (cellCount table) (told .before .loop-test .taken)
-    (λ e. c .if4 .taken (ap (λ (v : Verdict). v .number) (told .cell-verdict .ensures) ∙ e)))
+    let turn = told .before in
+    let top = turn .before in
+    let table = now (top .before .before .before .before .args .table) in
+    sym (top .loop .inv ∙ found-hit (fieldsVerdict table) (top .loop .k) (cellCount table) _ (told .fields-verdict .ensures) (turn .loop-test .taken) (c .if2 .taken))
 
 add-k : tie.Need-add-k Inv-loop μ-loop
-add-k c = omega (arith, ltb-false)
+add-k c =
+    let turn = c .before .before .before in
+    omega (arith, turn .loop-test .taken, table-most _ (right (turn .before .before)))
 
 loop-less : tie.Need-loop-less Inv-loop μ-loop
-loop-less c = omega arith
+loop-less c = omega (arith, c .before .before .before .loop-test .taken)
 
 loop-again : tie.Need-loop-again Inv-loop μ-loop
 unfolding cellCount
 loop-again c =
     let told = c .before .before in
-    let top = told .before .before in
-    let table = now (top .before .before .before .before .before .args .table) in
-    top .loop .inv
-    ∙ search-pass (cellVerdict table) (top .loop .k) (cellCount table) (told .before .loop-test .taken)
-    (sym (ap (λ (v : Verdict). v .number) (told .cell-verdict .ensures)) ∙ c .if4 .left)
+    let turn = told .before in
+    let top = turn .before in
+    let table = now (top .before .before .before .before .args .table) in
+    top .loop .inv ∙ found-pass (fieldsVerdict table) (top .loop .k) (cellCount table) _ (told .fields-verdict .ensures) (turn .loop-test .taken) (c .if2 .left)
 
 refuse-unless-requires-2 : tie.Need-refuse-unless-requires-2 Inv-loop μ-loop
 refuse-unless-requires-2 c κs = search needs
@@ -82,9 +78,9 @@ returns-3 : tie.Need-returns-3 Inv-loop μ-loop
 unfolding cellCount
 returns-3 c =
     let top = c .before .before in
-    let table = now (top .before .before .before .before .before .args .table) in
+    let table = now (top .before .before .before .before .args .table) in
     c .refuse-unless2 .ensures
-    ∙ sym (top .loop .inv ∙ search-end (cellVerdict table) (top .loop .k) (cellCount table) (c .before .loop-test .left))
+    ∙ sym (top .loop .inv ∙ search-end (fieldsVerdict table) (top .loop .k) (cellCount table) (c .before .loop-test .left))
 
 pub table-verdict-spec : {M : Type 1} → statement M
 table-verdict-spec =
@@ -92,11 +88,12 @@ table-verdict-spec =
     (tie.spec
     Inv-loop
     μ-loop
+    is-table-requires
     refuse-unless-requires
     returns
     cast-cells
     loop-holds
-    cell-verdict-requires
+    fields-verdict-requires
     returns-2
     add-k
     loop-less

@@ -1,0 +1,75 @@
+-- `capi::packing::packed_tick` meets its contract: the sum of its parts. Assumes nothing.
+use borrow.Author.Needs.{needs}
+use Rattle.capi.specs.Packed.{packedTick}
+use Rattle.capi.proofs.packing.packed_tick.Statement.{statement}
+use Rattle.capi.proofs.packing.packed_tick.Tie as tie
+
+cast-result : tie.Need-cast-result
+cast-result c = search needs
+
+mul-result : tie.Need-mul-result
+mul-result c = search needs
+
+add-result : tie.Need-add-result
+add-result c = search needs
+
+cast-result-2 : tie.Need-cast-result-2
+cast-result-2 c = search needs
+
+mul-result-2 : tie.Need-mul-result-2
+mul-result-2 c = search needs
+
+add-result-2 : tie.Need-add-result-2
+add-result-2 c = search needs
+
+cast-result-3 : tie.Need-cast-result-3
+cast-result-3 c = search needs
+
+mul-result-3 : tie.Need-mul-result-3
+mul-result-3 c = search needs
+
+add-result-3 : tie.Need-add-result-3
+add-result-3 c = search needs
+
+cast-result-4 : tie.Need-cast-result-4
+cast-result-4 c = search needs
+
+mul-result-4 : tie.Need-mul-result-4
+mul-result-4 c = search needs
+
+add-result-4 : tie.Need-add-result-4
+add-result-4 c = search needs
+
+cast-result-5 : tie.Need-cast-result-5
+cast-result-5 c = search needs
+
+mul-result-5 : tie.Need-mul-result-5
+mul-result-5 c = search needs
+
+add-result-5 : tie.Need-add-result-5
+add-result-5 c = search needs
+
+returns : tie.Need-returns
+unfolding packedTick
+returns c = search needs
+
+pub packed-tick-spec : {M : Type 1} → statement M
+packed-tick-spec =
+    tie.close
+    (tie.spec
+    cast-result
+    mul-result
+    add-result
+    cast-result-2
+    mul-result-2
+    add-result-2
+    cast-result-3
+    mul-result-3
+    add-result-3
+    cast-result-4
+    mul-result-4
+    add-result-4
+    cast-result-5
+    mul-result-5
+    add-result-5
+    returns)
