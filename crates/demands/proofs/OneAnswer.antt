@@ -10,7 +10,7 @@ use Rattle.records.specs.Verdicts.{refusedUnless, orElse}
 use Rattle.records.specs.declared.verdict.Verdict.{Verdict}
 use Rattle.text.specs.Text.{emptyLine, appended, written as lineText, decimalText, hexText, bytesText}
 use Rattle.text.specs.declared.Line.{Line}
-use Rattle.console.specs.Refusal.{refusalLine, partRefusalLine}
+use Rattle.console.specs.Refusal.{refusalLine}
 use Rattle.image.specs.Reading.{reading}
 use Rattle.image.specs.declared.settings.Settings.{Settings}
 use Rattle.writing.specs.Writing.{settingsVerdict, writeVerdict, written, blankImage}
@@ -188,8 +188,5 @@ hex line number width = one-answer (appended line (hexText width number))
 pub bytes : (line : Line) (part : List ℕ) → OneAnswer (appended line (bytesText part))
 bytes line part = one-answer (appended line (bytesText part))
 
-pub refusal : (number place : ℕ) → OneAnswer (refusalLine number place)
-refusal number place = one-answer (refusalLine number place)
-
-pub refusal-of : (part : List ℕ) (number place : ℕ) → OneAnswer (partRefusalLine part number place)
-refusal-of part number place = one-answer (partRefusalLine part number place)
+pub refusal : (part : List ℕ) (number place : ℕ) → OneAnswer (refusalLine part number place)
+refusal part number place = one-answer (refusalLine part number place)
