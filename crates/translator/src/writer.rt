@@ -1,7 +1,8 @@
 // Every test first; then the cells, each into the part lent for it.
 use crate::cells::cells_for;
 use crate::cells::first_cell;
-use crate::cut::cut_at;
+use crate::cut::cut;
+use crate::cut::last_cut;
 use records::NO_ROOM;
 use records::TOO_MANY_CELLS;
 use records::Verdict;
@@ -91,10 +92,12 @@ fn write_step(sheet: &[u8], i: u8, first: u16, cells: u16, table: &mut [u8])
     requires { ⌜ cells ≡ cellsOf (now sheet) i ⌝ }
     ensures { λ _. ⌜ now (table .exit) ≡ take (12 * first) (now (table .entry)) ++ (stepBytes (now (sheet .entry)) i ++ drop (12 * (first + cells)) (now (table .entry))) ⌝ }
 {
+    let last = last_cut(sheet, i, cells - 1);
     let mut j = 0;
     while j < cells {
         let at = 12 * ((first + j) as usize);
-        write_cell(cut_at(sheet, i, j), &mut table[at..at + 12]);
+        let cell = cut(last, (first + j + 1) as u8, j + 1 == cells);
+        write_cell(cell, &mut table[at..at + 12]);
         j += 1;
     }
 }
