@@ -23,7 +23,8 @@ use Rattle.machine.specs.Machine.{startState, after}
 use Rattle.machine.specs.declared.node.Node.{Node}
 use Rattle.machine.specs.declared.state.State.{State}
 use Rattle.tables.specs.Tables.{cellAt, partVerdict, cellWritten, cellVerdict, tableVerdict}
-use Rattle.sheets.specs.Sheets.{stepAt, stepCount, nodeAt, sheetVerdict}
+use Rattle.steps.specs.Steps.{stepAt, stepCount}
+use Rattle.sheets.specs.Sheets.{nodeAt, sheetVerdict}
 use Rattle.engine.specs.Engine.{tableTicked, tableShown, sheetTicked, sheetShown}
 use Rattle.translator.specs.Translation.{translation, translated}
 use Rattle.capi.specs.Packed.{packedTranslation, packedVerdict, packedTick, packedWords}

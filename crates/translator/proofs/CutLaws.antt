@@ -8,7 +8,8 @@ use lib.Dec.{eqb}
 use native.Mathlib.Decide.{ℕ-discrete}
 use native.Mathlib.Omega.{arith}
 use Rattle.machine.specs.declared.node.Node.{Node}
-use Rattle.sheets.specs.Sheets.{stepAt, nodeAt}
+use Rattle.steps.specs.Steps.{stepAt}
+use Rattle.sheets.specs.Sheets.{nodeAt}
 use Rattle.translator.specs.Translation.{cellsOf, firstCell, lastCut, cutAt}
 
 module _ (sheet : List ℕ) (i j : ℕ) where

@@ -2,7 +2,7 @@
 use records::word_at;
 ghost use Prim.Native.Nat.{_≤_};
 ghost use mathlib.Core.Path.{_≡_};
-ghost use Rattle.sheets.specs.Sheets.{stepAt};
+ghost use Rattle.steps.specs.Steps.{stepAt};
 ghost use Rattle.translator.specs.Translation.{cellsFor, firstCell};
 
 // A timeout's cells: its 4000s, rounded up, at least one.

@@ -6,7 +6,8 @@ ghost use Prim.Native.Nat.{_+_, _<_, _≤_};
 ghost use mathlib.Core.Bool.{cond};
 ghost use mathlib.Core.Path.{_≡_};
 ghost use Rattle.translator.specs.Translation.{cutAt, cellsOf, cellTotal};
-ghost use Rattle.sheets.specs.Sheets.{sheetVerdict, stepCount};
+ghost use Rattle.steps.specs.Steps.{stepCount};
+ghost use Rattle.sheets.specs.Sheets.{sheetVerdict};
 
 // Cell j, the last, of step i of an accepted sheet of at most 63 cells: the rest of the timeout, and
 // the step's own jumps.

@@ -8,15 +8,16 @@ use records::TOO_MANY_CELLS;
 use records::Verdict;
 use records::refuse_unless;
 use sheets::sheet_verdict;
-use sheets::step_at;
-use sheets::step_count;
+use steps::step_at;
+use steps::step_count;
 use tables::write_cell;
 ghost use Prim.Native.Nat.{_≤_, _<_, _*_, _+_};
 ghost use mathlib.Core.Path.{_≡_};
 ghost use mathlib.Core.List.{_++_};
 ghost use lib.ListN.{length, take, drop};
 ghost use Rattle.records.specs.Lists.{each, pieces};
-ghost use Rattle.sheets.specs.Sheets.{sheetVerdict, stepCount};
+ghost use Rattle.steps.specs.Steps.{stepCount};
+ghost use Rattle.sheets.specs.Sheets.{sheetVerdict};
 ghost use Rattle.translator.specs.Translation.{translationVerdict, translation, translated, tableOf, cellTotal, firstCell, cellsOf, stepBytes};
 
 // How many cells were written, with number 0; or the refusal, with no cell.

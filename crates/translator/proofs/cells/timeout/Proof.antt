@@ -1,6 +1,6 @@
 -- `translator::cells::timeout` meets its contract: the word at offset 12 of the step. Assumes nothing.
 use borrow.Author.Needs.{needs}
-use Rattle.sheets.specs.Sheets.{stepAt}
+use Rattle.steps.specs.Steps.{stepAt}
 use Rattle.translator.proofs.cells.timeout.Statement.{statement}
 use Rattle.translator.proofs.cells.timeout.Tie as tie
 

@@ -6,7 +6,8 @@ use native.Mathlib.Omega.{arith}
 use denote.Ref.{now}
 use borrow.Author.Needs.{needs}
 use Rattle.machine.specs.declared.node.Node.{Node}
-use Rattle.sheets.specs.Sheets.{stepAt, nodeAt}
+use Rattle.steps.specs.Steps.{stepAt}
+use Rattle.sheets.specs.Sheets.{nodeAt}
 use Rattle.translator.specs.Translation.{cellsOf, firstCell, cutAt}
 use Rattle.translator.proofs.CutLaws.{last-timeout, last-to}
 use Rattle.translator.proofs.CutFits.{rest-left, CutFits, cut-fits}

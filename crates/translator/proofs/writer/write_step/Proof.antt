@@ -6,7 +6,7 @@ use native.Mathlib.Omega.{arith}
 use lib.ListN.{length}
 use denote.Ref.{now}
 use borrow.Author.Needs.{needs}
-use Rattle.sheets.specs.Sheets.{stepAt}
+use Rattle.steps.specs.Steps.{stepAt}
 use Rattle.translator.specs.Translation.{firstCell}
 use Rattle.translator.proofs.CellCounts.{cells-least}
 use Rattle.translator.proofs.CutFits.{step-within}
