@@ -1,5 +1,5 @@
 // What the programs share: standard input read whole, a line written to standard output, and the
-// lines of refusals.
+// line of a refusal.
 //
 // No contract can say which bytes C's read and write move: `receive` promises only that its count
 // lies within the buffer, and `print` only how many bytes it hands on.
@@ -10,7 +10,7 @@ ghost use mathlib.Core.Path.{_≡_};
 ghost use lib.ListN.{length};
 ghost use Rattle.io.specs.Counts.{Counts};
 ghost use Rattle.text.specs.Text.{written};
-ghost use Rattle.console.specs.Refusal.{refusalLine, partRefusalLine, refusedWith};
+ghost use Rattle.console.specs.Refusal.{refusalLine};
 
 // How many bytes came, at the start of the buffer; none where a read failed.
 pub struct Received {
@@ -54,22 +54,11 @@ pub fn print(line: Line) -> usize
     count
 }
 
-// "refused NUMBER PLACE"
-pub fn refusal(number: u8, place: usize) -> Line
-    ensures { λ r. ⌜ r ≡ refusalLine number place ⌝ }
+// "refused NUMBER PLACE"; where the input has several parts, `part` is a space and the name of one, and
+// stands after the word.
+pub fn refusal(part: &[u8], number: u8, place: usize) -> Line
+    ensures { λ r. ⌜ r ≡ refusalLine (now (part .entry)) number place ⌝ }
 {
-    refused_with(text::empty().word(b"refused"), number, place)
-}
-
-// "refused PART NUMBER PLACE", where the input has several parts
-pub fn refusal_of(part: &[u8], number: u8, place: usize) -> Line
-    ensures { λ r. ⌜ r ≡ partRefusalLine (now (part .entry)) number place ⌝ }
-{
-    refused_with(text::empty().word(b"refused ").word(part), number, place)
-}
-
-fn refused_with(line: Line, number: u8, place: usize) -> Line
-    ensures { λ r. ⌜ r ≡ refusedWith line number place ⌝ }
-{
+    let line = text::empty().word(b"refused").word(part);
     line.item(number as u64).item(place as u64).word(b"\n")
 }

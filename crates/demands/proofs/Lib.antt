@@ -1,3 +1,4 @@
+pub mod RecordingLaws
 pub mod Point1
 pub mod Point2
 pub mod Point2Detectors

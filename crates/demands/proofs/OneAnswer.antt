@@ -1,109 +1,199 @@
--- Any two answers that a promise allows are equal, bytes of lent memory included. Assumes nothing.
+-- Any two answers that a promise allows are equal, bytes of lent memory included: one line for each public call. Assumes nothing.
 use Prim.Native.Nat.{ℕ}
 use mathlib.Core.Path.{_≡_, sym, _∙_}
-use mathlib.Core.List.{List}
+use mathlib.Core.Bool.{Bool}
+use mathlib.Core.List.{List, _∷_}
+use lib.ListN.{length, getD}
+use Rattle.records.specs.Bits.{bits, joined}
+use Rattle.records.specs.Words.{wordAt, bitWord}
+use Rattle.records.specs.Verdicts.{refusedUnless, orElse}
 use Rattle.records.specs.declared.verdict.Verdict.{Verdict}
+use Rattle.text.specs.Text.{emptyLine, appended, written as lineText, decimalText, hexText, bytesText}
+use Rattle.text.specs.declared.Line.{Line}
+use Rattle.console.specs.Refusal.{refusalLine}
 use Rattle.image.specs.Reading.{reading}
-use Rattle.writing.specs.Writing.{settingsVerdict, writeVerdict, written, blankImage}
-use Rattle.image.specs.declared.reader.Reading.{Reading}
+use Rattle.image.specs.declared.settings.Group.{Group}
 use Rattle.image.specs.declared.settings.Settings.{Settings}
+use Rattle.writing.specs.Writing.{settingsVerdict, writeVerdict, written, blankImage}
+use Rattle.channels.specs.Run.{ranOver}
+use Rattle.channels.specs.declared.channel.Channel.{Channel}
 use Rattle.detectors.specs.Bank.{startBank}
 use Rattle.detectors.specs.Tick.{ticked, engineTicked}
 use Rattle.detectors.specs.declared.bank.Bank.{Bank}
-use Rattle.detectors.specs.declared.ticks.Detected.{Detected}
 use Rattle.pins.specs.Pins.{driven}
-use Rattle.pins.specs.declared.Driven.{Driven}
-use Rattle.machine.specs.Machine.{startState}
+use Rattle.machine.specs.Fields.{elapsedInRange}
+use Rattle.machine.specs.Machine.{startState, after}
 use Rattle.machine.specs.declared.node.Node.{Node}
 use Rattle.machine.specs.declared.state.State.{State}
-use Rattle.tables.specs.Tables.{partVerdict, cellWritten, cellVerdict, tableVerdict}
-use Rattle.sheets.specs.Sheets.{sheetVerdict}
+use Rattle.tables.specs.Tables.{cellAt, partVerdict, cellWritten, cellVerdict, tableVerdict}
+use Rattle.steps.specs.Steps.{stepAt, stepCount}
+use Rattle.sheets.specs.Sheets.{nodeAt, sheetVerdict}
 use Rattle.engine.specs.Engine.{tableTicked, tableShown, sheetTicked, sheetShown}
-use Rattle.engine.specs.declared.answer.Ticked.{Ticked}
 use Rattle.translator.specs.Translation.{translation, translated}
-use Rattle.translator.specs.declared.writer.Translation.{Translation}
+use Rattle.capi.specs.Packed.{packedTranslation, packedVerdict, packedTick, packedWords}
+use Rattle.capi.specs.Calls.{normalVerdict, normalWritten, recorded}
 
--- What a promise fixes by a definition is one value.
-same {ℓ} : {A : Type ℓ} {one other answer : A} → one ≡ answer → other ≡ answer → one ≡ other
-same p q = p ∙ sym q
+-- any two values that a promise allows are equal, where it fixes them by a definition
+abbrev pub OneAnswer {ℓ} : {A : Type ℓ} → A → Type ℓ
+OneAnswer {A} promised = (one other : A) → one ≡ promised → other ≡ promised → one ≡ other
 
--- image::read
-pub read : (image : List ℕ) (one other : Reading) → one ≡ reading image → other ≡ reading image → one ≡ other
-read image one other = same
+pub one-answer {ℓ} : {A : Type ℓ} (promised : A) → OneAnswer promised
+one-answer promised one other p q = p ∙ sym q
 
--- writing::write: the answer, and the buffer
-pub write : (settings : Settings) (buffer : List ℕ) (one other : Verdict) (left left′ : List ℕ)
-    → one ≡ writeVerdict settings buffer → other ≡ writeVerdict settings buffer
-    → left ≡ written settings buffer → left′ ≡ written settings buffer
-    → (one ≡ other) × (left ≡ left′)
-write settings buffer one other left left′ p q b c = (same p q, same b c)
+-- ---- image and writing
 
--- writing::settings_verdict
-pub settings-verdict : (settings : Settings) (one other : Verdict) → one ≡ settingsVerdict settings → other ≡ settingsVerdict settings → one ≡ other
-settings-verdict settings one other = same
+pub read : (image : List ℕ) → OneAnswer (reading image)
+read image = one-answer (reading image)
 
--- writing::blank
-pub blank : (one other : List ℕ) → one ≡ blankImage → other ≡ blankImage → one ≡ other
-blank one other = same
+pub settings-verdict : (settings : Settings) → OneAnswer (settingsVerdict settings)
+settings-verdict settings = one-answer (settingsVerdict settings)
 
--- detectors::start
-pub start-bank : (one other : Bank) → one ≡ startBank → other ≡ startBank → one ≡ other
-start-bank one other = same
+-- the answer, and the buffer
+pub write : (settings : Settings) (buffer : List ℕ) → OneAnswer (writeVerdict settings buffer) × OneAnswer (written settings buffer)
+write settings buffer = (one-answer (writeVerdict settings buffer), one-answer (written settings buffer))
 
--- detectors::tick
-pub tick : (settings : Settings) (bank : Bank) (frame : List ℕ) (one other : Detected) → one ≡ ticked settings bank frame → other ≡ ticked settings bank frame → one ≡ other
-tick settings bank frame one other = same
+pub blank : OneAnswer blankImage
+blank = one-answer blankImage
 
--- detectors::engine_tick
-pub engine-tick : (settings : Settings) (bank : Bank) (frames : List ℕ) (one other : Detected)
-    → one ≡ engineTicked settings bank frames → other ≡ engineTicked settings bank frames → one ≡ other
-engine-tick settings bank frames one other = same
+-- ---- channels, detectors and pins
 
--- pins::pins
-pub pins : (settings : Settings) (outputs : ℕ) (one other : Driven) → one ≡ driven settings outputs → other ≡ driven settings outputs → one ≡ other
-pins settings outputs one other = same
+pub channel-run : (channel : Channel) (group : Group) (frames : List ℕ) (n k : ℕ) → OneAnswer (ranOver group frames k channel n)
+channel-run channel group frames n k = one-answer (ranOver group frames k channel n)
 
--- sheets::sheet_verdict
-pub sheet-verdict : (sheet : List ℕ) (one other : Verdict) → one ≡ sheetVerdict sheet → other ≡ sheetVerdict sheet → one ≡ other
-sheet-verdict sheet one other = same
+pub start-bank : OneAnswer startBank
+start-bank = one-answer startBank
 
--- tables::table_verdict
-pub table-verdict : (table : List ℕ) (one other : Verdict) → one ≡ tableVerdict table → other ≡ tableVerdict table → one ≡ other
-table-verdict table one other = same
+pub tick : (settings : Settings) (bank : Bank) (frame : List ℕ) → OneAnswer (ticked settings bank frame)
+tick settings bank frame = one-answer (ticked settings bank frame)
 
--- tables::cell_verdict
-pub cell-verdict : (table : List ℕ) (k : ℕ) (one other : Verdict) → one ≡ cellVerdict table k → other ≡ cellVerdict table k → one ≡ other
-cell-verdict table k one other = same
+pub engine-tick : (settings : Settings) (bank : Bank) (frames : List ℕ) → OneAnswer (engineTicked settings bank frames)
+engine-tick settings bank frames = one-answer (engineTicked settings bank frames)
 
--- tables::write_cell: the answer, and the part
-pub write-cell : (cell : Node) (part : List ℕ) (one other : Verdict) (left left′ : List ℕ)
-    → one ≡ partVerdict part → other ≡ partVerdict part → left ≡ cellWritten cell part → left′ ≡ cellWritten cell part
-    → (one ≡ other) × (left ≡ left′)
-write-cell cell part one other left left′ p q b c = (same p q, same b c)
+pub pins : (settings : Settings) (outputs : ℕ) → OneAnswer (driven settings outputs)
+pins settings outputs = one-answer (driven settings outputs)
 
--- engine::start
-pub start-state : (one other : State) → one ≡ startState → other ≡ startState → one ≡ other
-start-state one other = same
+-- ---- sheets and tables
 
--- engine::tick_table
-pub tick-table : (table : List ℕ) (state : State) (word : ℕ) (one other : Ticked) → one ≡ tableTicked table state word → other ≡ tableTicked table state word → one ≡ other
-tick-table table state word one other = same
+pub sheet-verdict : (sheet : List ℕ) → OneAnswer (sheetVerdict sheet)
+sheet-verdict sheet = one-answer (sheetVerdict sheet)
 
--- engine::show_table
-pub show-table : (table : List ℕ) (state : State) (one other : Ticked) → one ≡ tableShown table state → other ≡ tableShown table state → one ≡ other
-show-table table state one other = same
+pub step-at : (sheet : List ℕ) (k : ℕ) → OneAnswer (stepAt sheet k)
+step-at sheet k = one-answer (stepAt sheet k)
 
--- engine::tick_sheet
-pub tick-sheet : (sheet : List ℕ) (state : State) (word : ℕ) (one other : Ticked) → one ≡ sheetTicked sheet state word → other ≡ sheetTicked sheet state word → one ≡ other
-tick-sheet sheet state word one other = same
+pub step-count : (sheet : List ℕ) → OneAnswer (stepCount sheet)
+step-count sheet = one-answer (stepCount sheet)
 
--- engine::show_sheet
-pub show-sheet : (sheet : List ℕ) (state : State) (one other : Ticked) → one ≡ sheetShown sheet state → other ≡ sheetShown sheet state → one ≡ other
-show-sheet sheet state one other = same
+pub node-at : (sheet : List ℕ) (k : ℕ) → OneAnswer (nodeAt sheet k)
+node-at sheet k = one-answer (nodeAt sheet k)
 
--- translator::translate: the answer, and the buffer
-pub translate : (sheet buffer : List ℕ) (one other : Translation) (left left′ : List ℕ)
-    → one ≡ translation sheet buffer → other ≡ translation sheet buffer
-    → left ≡ translated sheet buffer → left′ ≡ translated sheet buffer
-    → (one ≡ other) × (left ≡ left′)
-translate sheet buffer one other left left′ p q b c = (same p q, same b c)
+pub table-verdict : (table : List ℕ) → OneAnswer (tableVerdict table)
+table-verdict table = one-answer (tableVerdict table)
+
+pub cell-verdict : (table : List ℕ) (k : ℕ) → OneAnswer (cellVerdict table k)
+cell-verdict table k = one-answer (cellVerdict table k)
+
+pub cell-at : (table : List ℕ) (k : ℕ) → OneAnswer (cellAt table k)
+cell-at table k = one-answer (cellAt table k)
+
+-- the answer, and the part
+pub write-cell : (cell : Node) (part : List ℕ) → OneAnswer (partVerdict part) × OneAnswer (cellWritten cell part)
+write-cell cell part = (one-answer (partVerdict part), one-answer (cellWritten cell part))
+
+-- ---- machine and engine
+
+-- machine::start and engine::start
+pub start-state : OneAnswer startState
+start-state = one-answer startState
+
+pub next-state : (node : Node) (word : ℕ) (state : State) → OneAnswer (after node word state)
+next-state node word state = one-answer (after node word state)
+
+pub elapsed-in-range : (timeout elapsed : ℕ) → OneAnswer (elapsedInRange timeout elapsed)
+elapsed-in-range timeout elapsed = one-answer (elapsedInRange timeout elapsed)
+
+pub tick-table : (table : List ℕ) (state : State) (word : ℕ) → OneAnswer (tableTicked table state word)
+tick-table table state word = one-answer (tableTicked table state word)
+
+pub show-table : (table : List ℕ) (state : State) → OneAnswer (tableShown table state)
+show-table table state = one-answer (tableShown table state)
+
+pub tick-sheet : (sheet : List ℕ) (state : State) (word : ℕ) → OneAnswer (sheetTicked sheet state word)
+tick-sheet sheet state word = one-answer (sheetTicked sheet state word)
+
+pub show-sheet : (sheet : List ℕ) (state : State) → OneAnswer (sheetShown sheet state)
+show-sheet sheet state = one-answer (sheetShown sheet state)
+
+-- ---- translator: the answer, and the buffer
+
+pub translate : (sheet buffer : List ℕ) → OneAnswer (translation sheet buffer) × OneAnswer (translated sheet buffer)
+translate sheet buffer = (one-answer (translation sheet buffer), one-answer (translated sheet buffer))
+
+-- ---- the calls for C
+
+pub c-translate : (sheet table : List ℕ) → OneAnswer (packedTranslation (translation sheet table)) × OneAnswer (translated sheet table)
+c-translate sheet table = (one-answer (packedTranslation (translation sheet table)), one-answer (translated sheet table))
+
+pub c-normal : (image buffer : List ℕ) → OneAnswer (packedVerdict (normalVerdict image buffer)) × OneAnswer (normalWritten image buffer)
+c-normal image buffer = (one-answer (packedVerdict (normalVerdict image buffer)), one-answer (normalWritten image buffer))
+
+pub c-tick-table : (table : List ℕ) (state : State) (word : ℕ) → OneAnswer (packedTick (tableTicked table state word))
+c-tick-table table state word = one-answer (packedTick (tableTicked table state word))
+
+pub c-tick-sheet : (sheet : List ℕ) (state : State) (word : ℕ) → OneAnswer (packedTick (sheetTicked sheet state word))
+c-tick-sheet sheet state word = one-answer (packedTick (sheetTicked sheet state word))
+
+pub c-detect : (image recording : List ℕ) → OneAnswer (packedWords (recorded image recording))
+c-detect image recording = one-answer (packedWords (recorded image recording))
+
+-- ---- records
+
+pub field : (byte low width : ℕ) → OneAnswer (bits byte low width)
+field byte low width = one-answer (bits byte low width)
+
+pub word-bit : (word k : ℕ) → OneAnswer (bits word k 1)
+word-bit word k = one-answer (bits word k 1)
+
+pub join : (value low rest : ℕ) → OneAnswer (joined value low rest)
+join value low rest = one-answer (joined value low rest)
+
+pub refuse-unless : (holds : Bool) (number place : ℕ) → OneAnswer (refusedUnless holds number place)
+refuse-unless holds number place = one-answer (refusedUnless holds number place)
+
+pub or-else : (first second : Verdict) → OneAnswer (orElse first second)
+or-else first second = one-answer (orElse first second)
+
+pub word-at : (bytes : List ℕ) (at : ℕ) → OneAnswer (wordAt bytes at)
+word-at bytes at = one-answer (wordAt bytes at)
+
+pub byte-at : (bytes : List ℕ) (at : ℕ) → OneAnswer (getD bytes at 0)
+byte-at bytes at = one-answer (getD bytes at 0)
+
+pub bit : (on : Bool) (k : ℕ) → OneAnswer (bitWord on k)
+bit on k = one-answer (bitWord on k)
+
+-- ---- text and console
+
+pub empty : OneAnswer emptyLine
+empty = one-answer emptyLine
+
+-- Line::count and console::print
+pub count : (line : Line) → OneAnswer (length (lineText line))
+count line = one-answer (length (lineText line))
+
+pub word : (line : Line) (text : List ℕ) → OneAnswer (appended line text)
+word line text = one-answer (appended line text)
+
+pub decimal : (line : Line) (number : ℕ) → OneAnswer (appended line (decimalText number))
+decimal line number = one-answer (appended line (decimalText number))
+
+pub item : (line : Line) (number : ℕ) → OneAnswer (appended line (32 ∷ decimalText number))
+item line number = one-answer (appended line (32 ∷ decimalText number))
+
+pub hex : (line : Line) (number width : ℕ) → OneAnswer (appended line (hexText width number))
+hex line number width = one-answer (appended line (hexText width number))
+
+pub bytes : (line : Line) (part : List ℕ) → OneAnswer (appended line (bytesText part))
+bytes line part = one-answer (appended line (bytesText part))
+
+pub refusal : (part : List ℕ) (number place : ℕ) → OneAnswer (refusalLine part number place)
+refusal part number place = one-answer (refusalLine part number place)

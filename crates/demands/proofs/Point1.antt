@@ -19,6 +19,9 @@ use Rattle.machine.specs.declared.state.State.{State}
 use Rattle.tables.specs.Tables.{partVerdict, cellWritten}
 use Rattle.engine.specs.Engine.{tableStateVerdict, sheetStateVerdict, wordVerdict, refusedWith, answered, tableTicked, sheetTicked, tableShown, sheetShown}
 use Rattle.translator.specs.Translation.{translationVerdict, translation, translated}
+use Rattle.capi.specs.Calls.{normalVerdict, normalWritten, recorded}
+use Rattle.capi.proofs.CallLaws as c-calls
+use Rattle.demands.proofs.RecordingLaws.{Wordless, recorded-wordless}
 use Rattle.image_laws.proofs.Refusals as images
 use Rattle.detector_laws.proofs.Refusals as detectors
 
@@ -106,3 +109,13 @@ pub translate-refused : (sheet buffer : List ℕ) → ¬ (translationVerdict she
 unfolding translation translated
 translate-refused sheet buffer h =
     let refused = ne-eqb (translationVerdict sheet (length buffer) .number) 0 h in (rw refused, rw refused)
+
+-- ---- the calls for C: their translation and ticks are refused as above
+
+-- wrackbasket_normal
+pub c-normal-refused : (image buffer : List ℕ) → ¬ (normalVerdict image buffer .number ≡ 0) → normalWritten image buffer ≡ buffer
+c-normal-refused = c-calls.normal-kept
+
+-- wrackbasket_detect
+pub c-detect-refused : (image recording : List ℕ) → ¬ (recorded image recording .number ≡ 0) → Wordless (recorded image recording)
+c-detect-refused = recorded-wordless

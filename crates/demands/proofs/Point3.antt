@@ -16,7 +16,8 @@ use Rattle.records.proofs.TagLaws as tag-laws
 use Rattle.machine.specs.Machine.{startState, tickOn}
 use Rattle.machine.specs.declared.state.State.{State}
 use Rattle.tables.specs.Tables.{cellAt, cellCount, cellVerdict, tableVerdict}
-use Rattle.sheets.specs.Sheets.{stepAt, stepCount, nodeAt, sheetVerdict}
+use Rattle.steps.specs.Steps.{stepAt, stepCount}
+use Rattle.sheets.specs.Sheets.{nodeAt, sheetVerdict}
 use Rattle.sheets.proofs.AcceptedSheet.{AcceptedSheet}
 use Rattle.sheets.proofs.AcceptedSheet as sheets
 use Rattle.engine.specs.Engine.{tableStateVerdict, tableTicked, sheetStateVerdict, sheetTicked}

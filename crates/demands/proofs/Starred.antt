@@ -2,7 +2,7 @@
 use Prim.Native.Nat.{ℕ}
 use mathlib.Core.Path.{_≡_}
 use mathlib.Core.List.{List}
-use Rattle.sheets.specs.Sheets.{stepAt}
+use Rattle.steps.specs.Steps.{stepAt}
 use Rattle.translator.specs.Translation.{cellsFor, cutAt}
 use Rattle.translator.proofs.CellCounts.{cells-4000, cells-4001, cut-4001}
 use Rattle.image_laws.proofs.Starred.{OutputValues, output-values}

@@ -11,7 +11,8 @@ use Rattle.machine.specs.Machine.{tickOn}
 use Rattle.machine.specs.declared.node.Node.{Node}
 use Rattle.machine.specs.declared.state.State.{State}
 use Rattle.tables.specs.Tables.{cellAt, cellVerdict}
-use Rattle.sheets.specs.Sheets.{sheetVerdict, stepCount, nodeAt}
+use Rattle.steps.specs.Steps.{stepCount}
+use Rattle.sheets.specs.Sheets.{sheetVerdict, nodeAt}
 use Rattle.engine.specs.declared.answer.Ticked.{Ticked}
 
 -- ---- the tests

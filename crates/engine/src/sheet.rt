@@ -9,7 +9,7 @@ use records::Verdict;
 use records::refuse_unless;
 use sheets::node_at;
 use sheets::sheet_verdict;
-use sheets::step_count;
+use steps::step_count;
 ghost use mathlib.Core.Path.{_≡_};
 ghost use Rattle.engine.specs.Engine.{sheetStateVerdict, sheetTicked, sheetShown};
 

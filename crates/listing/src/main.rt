@@ -16,7 +16,7 @@ fn main() {
     let mut table = [0u8; 756];
     let translation = translator::translate(&sheet[..received.count], &mut table);
     if translation.number != 0 {
-        print(console::refusal(translation.number, translation.place));
+        print(console::refusal(b"", translation.number, translation.place));
         return;
     }
     print(heading(translation.cells));

@@ -13,7 +13,7 @@ mod board;
 
 use board::Board;
 use console::print;
-use console::refusal_of;
+use console::refusal;
 use image::Settings;
 use text::Line;
 ghost use Prim.Native.Nat.{_≤_};
@@ -25,7 +25,7 @@ fn main() {
     let received = console::receive(&mut bytes);
     let reading = image::read(&bytes[..received.count]);
     if reading.number != 0 {
-        print(refusal_of(b"image", reading.number, reading.place));
+        print(refusal(b" image", reading.number, reading.place));
         return;
     }
     let settings = reading.settings;
@@ -39,7 +39,7 @@ fn play_sheet(settings: Settings) {
     let mut table = [0u8; 756];
     let translation = translator::translate(&sheet[..length], &mut table);
     if translation.number != 0 {
-        print(refusal_of(b"sheet", translation.number, translation.place));
+        print(refusal(b" sheet", translation.number, translation.place));
         return;
     }
     let bytes = 12 * translation.cells as usize;
@@ -90,7 +90,7 @@ fn play_ticks(settings: Settings, table: &[u8]) {
 
 fn start_line(board: Board) -> Line {
     if board.number != 0 {
-        return refusal_of(b"ticks", board.number, board.place);
+        return refusal(b" ticks", board.number, board.place);
     }
     let ticked = board.ticked;
     let line = text::empty().word(b"start").item(ticked.step as u64);
@@ -99,7 +99,7 @@ fn start_line(board: Board) -> Line {
 
 fn tick_line(tick: u64, board: Board) -> Line {
     if board.number != 0 {
-        return refusal_of(b"ticks", board.number, board.place);
+        return refusal(b" ticks", board.number, board.place);
     }
     let detected = board.detected;
     let ticked = board.ticked;

@@ -6,9 +6,10 @@ use native.Mathlib.Nat.{add-zero, zero-add, add-suc, suc-add, not-suc-le-zero, l
 use native.Mathlib.Numerals.{add-one}
 use native.Mathlib.Omega.{arith}
 use lib.Arith.{digits-div, digits-mod}
-use lib.ListN.{length, getD, take, drop, set, length-append, length-drop, drop-of-length-le}
-use lib.Seq.{drop-cons, drop-drop, drop-length, take-at, drop-at, set-at, append-snoc, ext-getD, sets, sets-eq}
-use Rattle.records.specs.Lists.{each}
+use lib.ListN.{length, getD, take, drop, set, length-append, length-drop}
+use lib.Seq.{drop-cons, drop-drop, drop-length, take-at, drop-at, set-at, append-snoc, ext-getD}
+use borrow.Author.Tests.{eq-eqb}
+use Rattle.records.specs.Lists.{each, copied}
 
 module _ {ℓ} {A : Type ℓ} where
   -- ---- an element
@@ -89,13 +90,6 @@ module _ {ℓ} {A : Type ℓ} where
           (ap (λ (n : ℕ). (n + r) / w) (mul-comm w k) ∙ digits-div k h)
           (ap (λ (n : ℕ). (n + r) % w) (mul-comm w k) ∙ digits-mod k h)
 
-  -- ---- a list that stores, one for each place from the first, fill whole
-  pub sets-whole : (vs l : List A) → length l ≡ length vs → sets l 0 vs ≡ vs
-  sets-whole vs l h =
-      let fits : 0 + length vs ≤ length l = omega arith in
-      let past : length l ≤ 0 + length vs = omega arith in
-      sets-eq vs l 0 fits ∙ ap (λ (rest : List A). vs ++ rest) (drop-of-length-le l past) ∙ append-nil vs
-
   -- ---- an array that a loop fills from the front
   pub fill-more : (f : ℕ → A) (l₀ : List A) (k : ℕ) (d : A) → k < length l₀
       → set (each f 0 k ++ drop k l₀) k (f k) ≡ each f 0 (k + 1) ++ drop (k + 1) l₀
@@ -148,3 +142,8 @@ module _ {ℓ} {A : Type ℓ} where
 
   pub lent-length : (f : ℕ → A) (b₀ : List A) (n : ℕ) → n ≤ length b₀ → length (each f 0 n ++ drop n b₀) ≡ length b₀
   lent-length f b₀ n h = simp (length-append, each-length, length-drop) (omega arith)
+
+-- ---- a copy of as many bytes
+pub copied-whole : (bytes part : List ℕ) → length part ≡ length bytes → copied bytes part ≡ bytes
+unfolding copied
+copied-whole bytes part same = rw (eq-eqb (length part) (length bytes) same)

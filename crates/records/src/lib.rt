@@ -1,14 +1,16 @@
-// What every other crate stands on: the paper's numbers, verdicts, bit fields of a byte, and words
-// of two bytes.
+// What every other crate stands on: the paper's numbers, verdicts, bit fields of a byte, words of two
+// bytes, and copies of bytes.
 //
 // Every function is total: its definition in specs/ gives a value for every argument of its type.
 mod bits;
+mod copying;
 mod verdict;
 mod word;
 
 pub use bits::field;
 pub use bits::join;
 pub use bits::word_bit;
+pub use copying::copy;
 pub use verdict::Verdict;
 pub use verdict::or_else;
 pub use verdict::refuse_unless;

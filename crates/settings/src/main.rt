@@ -21,7 +21,7 @@ fn main() {
     let received = console::receive(&mut buffer);
     let reading = image::read(&buffer[..received.count]);
     if reading.number != 0 {
-        print(console::refusal(reading.number, reading.place));
+        print(console::refusal(b"", reading.number, reading.place));
         return;
     }
     let settings = reading.settings;

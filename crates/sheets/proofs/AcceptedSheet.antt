@@ -16,8 +16,9 @@ use Rattle.records.proofs.TestLaws.{le-test, eq-test, absent-test, present-test
 use Rattle.records.proofs.TagLaws.{repeats-some, fresh, lookUp-has, lookUp-first, lookUp-tagAt}
 use Rattle.machine.proofs.FieldLaws.{outputs-range, mask-range, channel-range, level-range, level-allowed}
 use Rattle.machine.proofs.StandLaws.{Leads, AbsentExits}
-use Rattle.sheets.specs.Sheets.{stepAt, stepCount, isSheet, jumpFault, stepFault, fieldsVerdict, repeatsVerdict, known, jumpsKnown, unknownVerdict, sheetTests, sheetVerdict, target, nodeAt}
-use Rattle.sheets.specs.declared.step.Step.{Step}
+use Rattle.steps.specs.Steps.{stepAt, stepCount, jumpFault, stepFault}
+use Rattle.sheets.specs.Sheets.{isSheet, fieldsVerdict, repeatsVerdict, known, jumpsKnown, unknownVerdict, sheetTests, sheetVerdict, target, nodeAt}
+use Rattle.steps.specs.declared.step.Step.{Step}
 
 -- ---- a step's fields
 

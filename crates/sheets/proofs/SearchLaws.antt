@@ -9,7 +9,7 @@ use Rattle.records.specs.Lists.{each}
 use Rattle.records.specs.Verdicts.{accepted, refusedUnless, firstRefusal}
 use Rattle.records.specs.declared.verdict.Verdict.{Verdict}
 use Rattle.records.proofs.VerdictLaws.{search-hit, search-pass, search-end}
-use Rattle.sheets.specs.Sheets.{stepCount}
+use Rattle.steps.specs.Steps.{stepCount}
 
 -- there are at most 63 steps
 pub few-steps : (sheet : List ℕ) → stepCount sheet ≤ 63

@@ -1,14 +1,14 @@
 // A step as a node: its jumps looked up to step numbers.
-use crate::step;
 use crate::tags;
 use machine::Node;
+use steps::step_at;
 ghost use mathlib.Core.Path.{_≡_};
 ghost use Rattle.sheets.specs.Sheets.{target as Sheets·target, nodeAt};
 
 pub fn node_at(sheet: &[u8], k: u8) -> Node
     ensures { λ r. ⌜ r ≡ nodeAt (now (sheet .entry)) k ⌝ }
 {
-    let step = step::step_at(sheet, k);
+    let step = step_at(sheet, k);
     Node {
         outputs: step.outputs,
         mask: step.mask,

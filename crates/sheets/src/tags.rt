@@ -1,13 +1,14 @@
 // Tags: the lowest step that repeats one, and the step that has one.
-use crate::step::step_count;
 use records::REPEATED_TAG;
 use records::Verdict;
 use records::refuse_unless;
 use records::word_at;
+use steps::step_count;
 ghost use Prim.Native.Nat.{_≤_, _<_, _*_};
 ghost use mathlib.Core.Path.{_≡_};
 ghost use Rattle.records.specs.Tags.{tagAt, lookUp};
-ghost use Rattle.sheets.specs.Sheets.{stepCount, repeatsVerdict};
+ghost use Rattle.steps.specs.Steps.{stepCount};
+ghost use Rattle.sheets.specs.Sheets.{repeatsVerdict};
 
 // Number 5 at the lowest step whose tag an earlier step has.
 pub(crate) fn repeats_verdict(sheet: &[u8]) -> Verdict

@@ -1,13 +1,13 @@
 // The sheet's tests: length, fields of every step, repeated tags, unknown tags.
-use crate::fields;
-use crate::step::step_at;
-use crate::step::step_count;
 use crate::tags;
 use records::OUT_OF_RANGE;
 use records::UNKNOWN_TAG;
 use records::Verdict;
 use records::WRONG_LENGTH;
 use records::refuse_unless;
+use steps::step_at;
+use steps::step_count;
+use steps::step_fault;
 ghost use mathlib.Core.Path.{_≡_};
 ghost use Rattle.sheets.specs.Sheets.{sheetVerdict, fieldsVerdict, unknownVerdict, jumpsKnown, known as Sheets·known};
 
@@ -35,7 +35,7 @@ fn fields_verdict(sheet: &[u8]) -> Verdict
     let steps = step_count(sheet);
     let mut k = 0;
     while k < steps {
-        let fault = fields::step_fault(step_at(sheet, k));
+        let fault = step_fault(step_at(sheet, k));
         if fault.number != 0 {
             return refuse_unless(false, OUT_OF_RANGE, k as usize);
         }

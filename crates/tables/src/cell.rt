@@ -4,10 +4,11 @@ use machine::Node;
 use records::Verdict;
 use records::WRONG_LENGTH;
 use records::byte_at;
+use records::copy;
 use records::refuse_unless;
 use records::word_at;
 ghost use mathlib.Core.Path.{_≡_};
-ghost use Rattle.tables.specs.Tables.{cellAt, cellWritten, partVerdict};
+ghost use Rattle.tables.specs.Tables.{cellAt, cellBytes, cellWritten, partVerdict};
 
 // The cell with a number. A byte past the table's end counts as 0.
 pub fn cell_at(table: &[u8], k: u8) -> Node
@@ -35,17 +36,25 @@ pub fn write_cell(cell: Node, part: &mut [u8]) -> Verdict
     if part.len() != 12 {
         return refuse_unless(false, WRONG_LENGTH, 0);
     }
-    part[0] = (cell.outputs % 256) as u8;
-    part[1] = (cell.outputs / 256) as u8;
-    part[2] = (cell.mask % 256) as u8;
-    part[3] = (cell.mask / 256) as u8;
-    part[4] = cell.faultto;
-    part[5] = cell.channel;
-    part[6] = cell.level;
-    part[7] = cell.sequenceto;
-    part[8] = (cell.timeout % 256) as u8;
-    part[9] = (cell.timeout / 256) as u8;
-    part[10] = cell.timeoutto;
-    part[11] = cell.step;
+    copy(&cell_bytes(cell), part);
     refuse_unless(true, 0, 0)
+}
+
+fn cell_bytes(cell: Node) -> [u8; 12]
+    ensures { λ r. ⌜ r ≡ cellBytes cell ⌝ }
+{
+    [
+        (cell.outputs % 256) as u8,
+        (cell.outputs / 256) as u8,
+        (cell.mask % 256) as u8,
+        (cell.mask / 256) as u8,
+        cell.faultto,
+        cell.channel,
+        cell.level,
+        cell.sequenceto,
+        (cell.timeout % 256) as u8,
+        (cell.timeout / 256) as u8,
+        cell.timeoutto,
+        cell.step,
+    ]
 }

@@ -8,7 +8,8 @@ use Rattle.records.specs.Verdicts.{accepted, refusedUnless, orElse, firstRefusa
 use Rattle.records.specs.declared.verdict.Verdict.{Verdict}
 use Rattle.records.proofs.VerdictLaws.{orElse-pass}
 use Rattle.records.proofs.TestLaws.{unless-passed, unless-passes, unless-shows, refusal-shows, LowestWithout}
-use Rattle.sheets.specs.Sheets.{stepAt, stepCount, isSheet, fieldsVerdict, repeatsVerdict, unknownVerdict, sheetTests, sheetVerdict}
+use Rattle.steps.specs.Steps.{stepAt, stepCount}
+use Rattle.sheets.specs.Sheets.{isSheet, fieldsVerdict, repeatsVerdict, unknownVerdict, sheetTests, sheetVerdict}
 use Rattle.sheets.proofs.AcceptedSheet.{AcceptedStep, sheet-accepted, SheetLength, Fresh, KnownJumps, length-accepted, fields-test, repeats-test, unknown-test}
 
 -- "Tests: length; fields of every step; repeated tags; unknown tags"; "The lowest step is named."

@@ -10,7 +10,8 @@ use Rattle.machine.specs.Machine.{shares, met, enter, after, startState, tickOn
 use Rattle.machine.specs.declared.node.Node.{Node}
 use Rattle.machine.specs.declared.state.State.{State}
 use Rattle.machine.proofs.StandLaws.{Stands, state-path, after-fault, after-sequence, quiet-rests, quiet-rises, quiet-ends}
-use Rattle.sheets.specs.Sheets.{stepAt, stepCount, nodeAt}
+use Rattle.steps.specs.Steps.{stepAt, stepCount}
+use Rattle.sheets.specs.Sheets.{nodeAt}
 use Rattle.translator.specs.Translation.{cellsFor, cellsOf, firstCell, cellTotal, cutAt}
 use Rattle.translator.proofs.CellCounts.{cells-0, cells-enough, first-past}
 use Rattle.translator.proofs.CutLaws.{last-timeout, last-to, inner-timeout, inner-to}

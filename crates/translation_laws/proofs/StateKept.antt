@@ -18,7 +18,8 @@ use Rattle.machine.proofs.StandLaws.{Stands, enter-stands, tick-stands}
 use Rattle.tables.specs.Tables.{cellCount, cellAt, tableVerdict}
 use Rattle.translation_laws.proofs.AcceptedTable as tables
 use Rattle.translation_laws.proofs.AcceptedTable.{AcceptedTable}
-use Rattle.sheets.specs.Sheets.{sheetVerdict, stepCount, nodeAt}
+use Rattle.steps.specs.Steps.{stepCount}
+use Rattle.sheets.specs.Sheets.{sheetVerdict, nodeAt}
 use Rattle.sheets.proofs.AcceptedSheet as sheets
 use Rattle.sheets.proofs.AcceptedSheet.{AcceptedSheet}
 use Rattle.engine.specs.Engine.{tableStateVerdict, sheetStateVerdict, wordVerdict, shownAs, answered, tableTicked, sheetTicked}

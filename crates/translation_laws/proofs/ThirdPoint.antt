@@ -10,7 +10,8 @@ use Rattle.machine.specs.Machine.{startState, tickOn}
 use Rattle.machine.specs.declared.state.State.{State}
 use Rattle.machine.proofs.StandLaws.{Stands}
 use Rattle.tables.specs.Tables.{cellAt, tableVerdict}
-use Rattle.sheets.specs.Sheets.{stepCount, sheetVerdict, nodeAt}
+use Rattle.steps.specs.Steps.{stepCount}
+use Rattle.sheets.specs.Sheets.{sheetVerdict, nodeAt}
 use Rattle.sheets.proofs.AcceptedSheet.{sheet-accepted}
 use Rattle.engine.specs.Engine.{tableStateVerdict, sheetStateVerdict, shownAs, tableTicked, sheetTicked, tableShown, sheetShown}
 use Rattle.engine.specs.Runs.{ticksFrom, sheetRun, tableRun}

@@ -8,7 +8,8 @@ use Rattle.records.specs.Verdicts.{accepted}
 use Rattle.records.proofs.VerdictLaws.{first-accepted}
 use Rattle.tables.specs.Tables.{cellAt, cellCount, tableVerdict}
 use Rattle.translation_laws.proofs.AcceptedTable.{AcceptedCell, AcceptedTable, table-accepted}
-use Rattle.sheets.specs.Sheets.{stepAt, stepCount, nodeAt, sheetVerdict}
+use Rattle.steps.specs.Steps.{stepAt, stepCount}
+use Rattle.sheets.specs.Sheets.{nodeAt, sheetVerdict}
 use Rattle.sheets.proofs.AcceptedSheet.{AcceptedSheet, sheet-accepted, node-leads, node-absent, count-least, count-most}
 use Rattle.translator.specs.Translation.{cellsOf, firstCell, cellTotal, cutAt, tableOf}
 use Rattle.translator.proofs.CellCounts.{cells-enough, cells-fewest, first-zero, first-past, first-rises, cell-owner}

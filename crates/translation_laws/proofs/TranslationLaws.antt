@@ -15,7 +15,8 @@ use Rattle.records.proofs.VerdictLaws.{orElse-pass, orElse-hit, orElse-zero, fi
 use Rattle.records.proofs.Every.{none, _also_}
 use Rattle.records.proofs.TestLaws.{le-test, unless-passed, unless-passes, all-zero}
 use Rattle.tables.specs.Tables.{cellAt}
-use Rattle.sheets.specs.Sheets.{stepCount, sheetTests, sheetVerdict}
+use Rattle.steps.specs.Steps.{stepCount}
+use Rattle.sheets.specs.Sheets.{sheetTests, sheetVerdict}
 use Rattle.translation_laws.proofs.RefusedSheet as sheets
 use Rattle.sheets.proofs.AcceptedSheet.{AcceptedSheet, sheet-accepted}
 use Rattle.translator.specs.Translation.{cellsOf, firstCell, cellTotal, cutAt, tableOf, translationVerdict, translation, translated}

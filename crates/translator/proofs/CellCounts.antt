@@ -8,7 +8,8 @@ use native.Mathlib.Decide.{ℕ-discrete, decLt}
 use native.Mathlib.Omega.{arith}
 use Rattle.records.specs.Lists.{each}
 use Rattle.records.proofs.ListLaws.{each-more}
-use Rattle.sheets.specs.Sheets.{stepAt, stepCount, nodeAt}
+use Rattle.steps.specs.Steps.{stepAt, stepCount}
+use Rattle.sheets.specs.Sheets.{nodeAt}
 use Rattle.translator.specs.Translation.{cellsFor, cellsOf, firstCell, cellTotal, lastCut, cutAt}
 
 -- ---- "a timeout T takes T/4000 cells rounded up, at least one"

@@ -10,7 +10,7 @@ use Rattle.records.specs.Lists.{pieces}
 use Rattle.records.proofs.PieceLaws.{pieces-more, pieces-at, pieces-length}
 use Rattle.tables.specs.Tables.{cellAt, cellBytes}
 use Rattle.tables.proofs.CellBytes.{cell-length, cell-read}
-use Rattle.sheets.specs.Sheets.{stepCount}
+use Rattle.steps.specs.Steps.{stepCount}
 use Rattle.translator.specs.Translation.{cellsOf, firstCell, cellTotal, cutAt, stepBytes, tableOf}
 
 module _ (sheet : List ℕ) where

@@ -4,7 +4,8 @@ use mathlib.Core.Path.{_≡_}
 use mathlib.Core.List.{List}
 use native.Mathlib.Decide.{ℕ-discrete}
 use native.Mathlib.Omega.{arith}
-use Rattle.sheets.specs.Sheets.{sheetVerdict, stepCount, stepAt, nodeAt}
+use Rattle.steps.specs.Steps.{stepCount, stepAt}
+use Rattle.sheets.specs.Sheets.{sheetVerdict, nodeAt}
 use Rattle.sheets.proofs.AcceptedSheet.{sheet-accepted, node-leads}
 use Rattle.translator.specs.Translation.{cellsFor, cellsOf, firstCell, cellTotal, cutAt}
 use Rattle.translator.proofs.CellCounts.{cells-least, first-past}

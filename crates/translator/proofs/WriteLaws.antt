@@ -15,7 +15,7 @@ use Rattle.machine.specs.declared.node.Node.{Node}
 use Rattle.tables.specs.Tables.{cellBytes, cellWritten}
 use Rattle.tables.proofs.CellBytes.{cell-length}
 use Rattle.tables.proofs.TableLaws.{part-taken}
-use Rattle.sheets.specs.Sheets.{stepCount}
+use Rattle.steps.specs.Steps.{stepCount}
 use Rattle.translator.specs.Translation.{cellsOf, firstCell, cellTotal, cutAt, stepBytes, tableOf}
 use Rattle.translator.proofs.CellCounts.{first-zero, first-suc}
 use Rattle.translator.proofs.CutBytes.{steps-length}

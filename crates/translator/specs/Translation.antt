@@ -10,7 +10,8 @@ use Rattle.records.specs.Verdicts.{refusedUnless, firstRefusal}
 use Rattle.records.specs.declared.verdict.Verdict.{Verdict}
 use Rattle.machine.specs.declared.node.Node.{Node}
 use Rattle.tables.specs.Tables.{cellBytes}
-use Rattle.sheets.specs.Sheets.{sheetTests, stepCount, stepAt, nodeAt}
+use Rattle.steps.specs.Steps.{stepCount, stepAt}
+use Rattle.sheets.specs.Sheets.{sheetTests, nodeAt}
 use Rattle.translator.specs.declared.writer.Translation.{Translation}
 
 -- ---- how many cells, and where they stand

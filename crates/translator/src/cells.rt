@@ -1,7 +1,8 @@
 // How many cells a step takes, and where they begin: sums over the steps before, computed.
-use sheets::step_at;
+use records::word_at;
 ghost use Prim.Native.Nat.{_≤_};
 ghost use mathlib.Core.Path.{_≡_};
+ghost use Rattle.steps.specs.Steps.{stepAt};
 ghost use Rattle.translator.specs.Translation.{cellsFor, firstCell};
 
 // A timeout's cells: its 4000s, rounded up, at least one.
@@ -22,9 +23,15 @@ pub(crate) fn first_cell(sheet: &[u8], step: u8) -> u16
     let mut first = 0;
     let mut i = 0;
     while i < step {
-        let before = step_at(sheet, i);
-        first += cells_for(before.timeout);
+        first += cells_for(timeout(sheet, i));
         i += 1;
     }
     first
+}
+
+// The timeout of a step, without the rest of it.
+fn timeout(sheet: &[u8], k: u8) -> u16
+    ensures { λ r. ⌜ r ≡ stepAt (now (sheet .entry)) k .timeout ⌝ }
+{
+    word_at(sheet, 16 * (k as usize) + 12)
 }

@@ -1,32 +1,28 @@
-// One cell of a step.
-use crate::cells::cells_for;
+// The cells that a step is cut into.
 use crate::cells::first_cell;
 use machine::Node;
 use sheets::node_at;
-ghost use Prim.Native.Nat.{_<_, _≤_};
+ghost use Prim.Native.Nat.{_+_, _<_, _≤_};
+ghost use mathlib.Core.Bool.{cond};
 ghost use mathlib.Core.Path.{_≡_};
-ghost use Rattle.translator.specs.Translation.{cutAt, cellsOf, firstCell, cellTotal};
-ghost use Rattle.sheets.specs.Sheets.{sheetVerdict, stepCount};
+ghost use Rattle.translator.specs.Translation.{cutAt, cellsOf, cellTotal};
+ghost use Rattle.steps.specs.Steps.{stepCount};
+ghost use Rattle.sheets.specs.Sheets.{sheetVerdict};
 
-// Cell j of step i of an accepted sheet of at most 63 cells.
-pub(crate) fn cut_at(sheet: &[u8], i: u8, j: u16) -> Node
+// Cell j, the last, of step i of an accepted sheet of at most 63 cells: the rest of the timeout, and
+// the step's own jumps.
+pub(crate) fn last_cut(sheet: &[u8], i: u8, j: u16) -> Node
     requires { ⌜ sheetVerdict (now sheet) .number ≡ 0 ⌝ }
     requires { ⌜ cellTotal (now sheet) ≤ 63 ⌝ }
     requires { ⌜ i < stepCount (now sheet) ⌝ }
-    requires { ⌜ j < cellsOf (now sheet) i ⌝ }
+    requires { ⌜ j + 1 ≡ cellsOf (now sheet) i ⌝ }
     ensures { λ r. ⌜ r ≡ cutAt (now (sheet .entry)) i j ⌝ }
 {
     let step = node_at(sheet, i);
-    let last = j + 1 == cells_for(step.timeout);
-    let timeout = if last { step.timeout - 4000 * j } else { 4000 };
-    let timeoutto = if last {
-        first_cell(sheet, step.timeoutto)
-    } else {
-        first_cell(sheet, i) + j + 1
-    };
+    let timeout = step.timeout - 4000 * j;
     let faultto = first_cell(sheet, step.faultto) as u8;
     let sequenceto = first_cell(sheet, step.sequenceto) as u8;
-    let timeoutto = timeoutto as u8;
+    let timeoutto = first_cell(sheet, step.timeoutto) as u8;
     Node {
         outputs: step.outputs,
         mask: step.mask,
@@ -37,5 +33,25 @@ pub(crate) fn cut_at(sheet: &[u8], i: u8, j: u16) -> Node
         timeout,
         timeoutto,
         step: i,
+    }
+}
+
+// The last cell itself, or one before it: that waits 4000 ticks and goes to the following cell.
+pub(crate) fn cut(last: Node, following: u8, is_last: bool) -> Node
+    ensures { λ r. ⌜ r ≡ cond «is_last» last (record { outputs = last .outputs; mask = last .mask; faultto = last .faultto; channel = last .channel; level = last .level; sequenceto = last .sequenceto; timeout = 4000; timeoutto = following; step = last .step }) ⌝ }
+{
+    if is_last {
+        return last;
+    }
+    Node {
+        outputs: last.outputs,
+        mask: last.mask,
+        faultto: last.faultto,
+        channel: last.channel,
+        level: last.level,
+        sequenceto: last.sequenceto,
+        timeout: 4000,
+        timeoutto: following,
+        step: last.step,
     }
 }

@@ -1,21 +1,23 @@
 // Every test first; then the cells, each into the part lent for it.
 use crate::cells::cells_for;
 use crate::cells::first_cell;
-use crate::cut::cut_at;
+use crate::cut::cut;
+use crate::cut::last_cut;
 use records::NO_ROOM;
 use records::TOO_MANY_CELLS;
 use records::Verdict;
 use records::refuse_unless;
 use sheets::sheet_verdict;
-use sheets::step_at;
-use sheets::step_count;
+use steps::step_at;
+use steps::step_count;
 use tables::write_cell;
 ghost use Prim.Native.Nat.{_≤_, _<_, _*_, _+_};
 ghost use mathlib.Core.Path.{_≡_};
 ghost use mathlib.Core.List.{_++_};
 ghost use lib.ListN.{length, take, drop};
 ghost use Rattle.records.specs.Lists.{each, pieces};
-ghost use Rattle.sheets.specs.Sheets.{sheetVerdict, stepCount};
+ghost use Rattle.steps.specs.Steps.{stepCount};
+ghost use Rattle.sheets.specs.Sheets.{sheetVerdict};
 ghost use Rattle.translator.specs.Translation.{translationVerdict, translation, translated, tableOf, cellTotal, firstCell, cellsOf, stepBytes};
 
 // How many cells were written, with number 0; or the refusal, with no cell.
@@ -91,10 +93,12 @@ fn write_step(sheet: &[u8], i: u8, first: u16, cells: u16, table: &mut [u8])
     requires { ⌜ cells ≡ cellsOf (now sheet) i ⌝ }
     ensures { λ _. ⌜ now (table .exit) ≡ take (12 * first) (now (table .entry)) ++ (stepBytes (now (sheet .entry)) i ++ drop (12 * (first + cells)) (now (table .entry))) ⌝ }
 {
+    let last = last_cut(sheet, i, cells - 1);
     let mut j = 0;
     while j < cells {
         let at = 12 * ((first + j) as usize);
-        write_cell(cut_at(sheet, i, j), &mut table[at..at + 12]);
+        let cell = cut(last, (first + j + 1) as u8, j + 1 == cells);
+        write_cell(cell, &mut table[at..at + 12]);
         j += 1;
     }
 }

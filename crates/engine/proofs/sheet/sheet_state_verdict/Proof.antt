@@ -12,7 +12,8 @@ use Rattle.records.proofs.VerdictLaws.{first-last}
 use Rattle.records.proofs.ReturnLaws.{test-refuses, test-passes, verdict-refuses, verdict-passes}
 use Rattle.machine.specs.Fields.{elapsedInRange}
 use Rattle.machine.specs.declared.node.Node.{Node}
-use Rattle.sheets.specs.Sheets.{stepCount, nodeAt}
+use Rattle.steps.specs.Steps.{stepCount}
+use Rattle.sheets.specs.Sheets.{nodeAt}
 use Rattle.engine.specs.Engine.{sheetStateVerdict}
 use Rattle.engine.proofs.sheet.sheet_state_verdict.Statement.{statement}
 use Rattle.engine.proofs.sheet.sheet_state_verdict.Tie as tie

@@ -5,7 +5,7 @@ use native.Mathlib.Omega.{arith}
 use denote.Ref.{now}
 use borrow.Author.Needs.{needs}
 use Rattle.records.proofs.TagSearch.{LookedUp, looked-none, looked-pass, looked-hit, looked-end}
-use Rattle.sheets.specs.Sheets.{stepCount}
+use Rattle.steps.specs.Steps.{stepCount}
 use Rattle.sheets.proofs.SearchLaws.{few-steps}
 use Rattle.sheets.proofs.tags.look_up.Statement.{statement}
 use Rattle.sheets.proofs.tags.look_up.Tie as tie

@@ -9,7 +9,8 @@ use denote.Ref.{now}
 use borrow.Author.Needs.{needs}
 use borrow.Author.Tests.{eq-eqb, ne-eqb, eqb-false}
 use Rattle.records.specs.declared.verdict.Verdict.{Verdict}
-use Rattle.sheets.specs.Sheets.{stepAt, stepFault, fieldsVerdict}
+use Rattle.steps.specs.Steps.{stepAt, stepFault}
+use Rattle.sheets.specs.Sheets.{fieldsVerdict}
 use Rattle.sheets.proofs.SearchLaws.{Searched, searched-none, searched-pass, searched-hit, searched-end}
 use Rattle.sheets.proofs.verdict.fields_verdict.Statement.{statement}
 use Rattle.sheets.proofs.verdict.fields_verdict.Tie as tie

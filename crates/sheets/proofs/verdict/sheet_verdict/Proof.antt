@@ -11,7 +11,8 @@ use Rattle.records.specs.Lists.{each}
 use Rattle.records.proofs.VerdictLaws.{first-one, first-accepted}
 use Rattle.records.proofs.ReturnLaws.{verdict-refuses, verdict-passes, test-refuses, test-passes}
 use Rattle.records.proofs.TestLaws.{sized, too-short, too-long, uneven}
-use Rattle.sheets.specs.Sheets.{stepCount, jumpsKnown, isSheet, unknownVerdict, sheetTests, sheetVerdict}
+use Rattle.steps.specs.Steps.{stepCount}
+use Rattle.sheets.specs.Sheets.{jumpsKnown, isSheet, unknownVerdict, sheetTests, sheetVerdict}
 use Rattle.sheets.proofs.verdict.sheet_verdict.Statement.{statement}
 use Rattle.sheets.proofs.verdict.sheet_verdict.Tie as tie
 

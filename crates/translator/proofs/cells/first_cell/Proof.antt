@@ -5,7 +5,6 @@ use native.Mathlib.Omega.{arith}
 use native.Mathlib.Numerals.{add-one}
 use denote.Ref.{now}
 use borrow.Author.Needs.{needs}
-use Rattle.sheets.specs.declared.step.Step.{Step}
 use Rattle.translator.specs.Translation.{cellsFor, cellsOf, firstCell}
 use Rattle.translator.proofs.CellCounts.{first-zero, first-suc}
 use Rattle.translator.proofs.cells.first_cell.Statement.{statement}
@@ -20,8 +19,8 @@ abbrev μ-loop : tie.MeasureT-loop
 loop-holds : tie.Need-loop-holds Inv-loop μ-loop
 loop-holds c = (sym (first-zero _), omega arith, omega arith)
 
-step-at-requires : tie.Need-step-at-requires Inv-loop μ-loop
-step-at-requires c κs = search needs
+timeout-requires : tie.Need-timeout-requires Inv-loop μ-loop
+timeout-requires c κs = search needs
 
 cells-for-requires : tie.Need-cells-for-requires Inv-loop μ-loop
 cells-for-requires c κs = search needs
@@ -42,7 +41,7 @@ loop-again c =
     let i = turn .loop .i in
     let more : firstCell sheet (i + 1) ≡ firstCell sheet i + cellsOf sheet i = ap (firstCell sheet) (add-one i) ∙ first-suc sheet i in
     let cells : c .cells-for .result ≡ cellsOf sheet i =
-    c .cells-for .ensures .0 ∙ ap (λ (s : Step). cellsFor (s .timeout)) (c .before .step-at .ensures) in
+    c .cells-for .ensures .0 ∙ ap cellsFor (c .before .timeout .ensures) in
     (omega arith, omega arith, omega arith)
 
 returns : tie.Need-returns Inv-loop μ-loop
@@ -57,7 +56,7 @@ first-cell-spec =
     Inv-loop
     μ-loop
     loop-holds
-    step-at-requires
+    timeout-requires
     cells-for-requires
     add-first
     add-i

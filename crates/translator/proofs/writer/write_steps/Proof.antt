@@ -5,8 +5,8 @@ use mathlib.Core.Path.{_≡_, ap, _∙_}
 use native.Mathlib.Omega.{arith}
 use denote.Ref.{now}
 use borrow.Author.Needs.{needs}
-use Rattle.sheets.specs.Sheets.{stepCount}
-use Rattle.sheets.specs.declared.step.Step.{Step}
+use Rattle.steps.specs.Steps.{stepCount}
+use Rattle.steps.specs.declared.step.Step.{Step}
 use Rattle.sheets.proofs.SearchLaws.{few-steps}
 use Rattle.translator.specs.Translation.{cellsFor, cellsOf}
 use Rattle.translator.proofs.CutFits.{step-within}

@@ -1,4 +1,4 @@
--- `sheets::fields::jump_fault` meets its contract: its two flags are the two tests, joined from the last to the first. Assumes nothing.
+-- `steps::fields::jump_fault` meets its contract: its two flags are the two tests, joined from the last to the first. Assumes nothing.
 use mathlib.Core.Path.{_≡_, refl, ap, sym, _∙_}
 use mathlib.Core.Bool.{Bool, not, _||_}
 use mathlib.Core.Logic.{⊎-elim}
@@ -8,9 +8,9 @@ use borrow.Author.Needs.{needs}
 use Rattle.records.specs.Verdicts.{refusedUnless}
 use Rattle.records.proofs.VerdictLaws.{first-tested, first-last}
 use Rattle.records.proofs.TestLaws.{or-left, or-right}
-use Rattle.sheets.specs.Sheets.{jumpFault}
-use Rattle.sheets.proofs.fields.jump_fault.Statement.{statement}
-use Rattle.sheets.proofs.fields.jump_fault.Tie as tie
+use Rattle.steps.specs.Steps.{jumpFault}
+use Rattle.steps.proofs.fields.jump_fault.Statement.{statement}
+use Rattle.steps.proofs.fields.jump_fault.Tie as tie
 
 refuse-unless-requires : tie.Need-refuse-unless-requires
 refuse-unless-requires c κs = search needs

@@ -1,11 +1,11 @@
--- `sheets::fields::step_fault` meets its contract: the tests are joined from the last to the first, as the first refusal of their list reads.
+-- `steps::fields::step_fault` meets its contract: the tests are joined from the last to the first, as the first refusal of their list reads.
 -- Assumes nothing.
 use borrow.Author.Needs.{needs}
 use Rattle.records.proofs.VerdictLaws.{first-none, first-tested}
 use Rattle.machine.specs.Fields.{outputsInRange, maskInRange, channelInRange, levelInRange, levelAllowed}
-use Rattle.sheets.specs.Sheets.{stepFault}
-use Rattle.sheets.proofs.fields.step_fault.Statement.{statement}
-use Rattle.sheets.proofs.fields.step_fault.Tie as tie
+use Rattle.steps.specs.Steps.{stepFault}
+use Rattle.steps.proofs.fields.step_fault.Statement.{statement}
+use Rattle.steps.proofs.fields.step_fault.Tie as tie
 
 refuse-unless-requires : tie.Need-refuse-unless-requires
 refuse-unless-requires c κs = search needs

@@ -1,9 +1,9 @@
--- `sheets::step::step_count` meets its contract: each branch is the smaller of the two. Assumes nothing.
+-- `steps::step::step_count` meets its contract: each branch is the smaller of the two. Assumes nothing.
 use native.Mathlib.Omega.{arith}
 use borrow.Author.Needs.{needs}
-use Rattle.sheets.specs.Sheets.{stepCount}
-use Rattle.sheets.proofs.step.step_count.Statement.{statement}
-use Rattle.sheets.proofs.step.step_count.Tie as tie
+use Rattle.steps.specs.Steps.{stepCount}
+use Rattle.steps.proofs.step.step_count.Statement.{statement}
+use Rattle.steps.proofs.step.step_count.Tie as tie
 
 cast-result : tie.Need-cast-result
 cast-result c = search needs

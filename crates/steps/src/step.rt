@@ -3,7 +3,7 @@
 use records::byte_at;
 use records::word_at;
 ghost use mathlib.Core.Path.{_≡_};
-ghost use Rattle.sheets.specs.Sheets.{stepAt, stepCount};
+ghost use Rattle.steps.specs.Steps.{stepAt, stepCount};
 
 pub struct Step {
     pub tag: u16,

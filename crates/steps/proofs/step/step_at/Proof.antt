@@ -1,8 +1,8 @@
--- `sheets::step::step_at` meets its contract field by field. Assumes nothing.
+-- `steps::step::step_at` meets its contract field by field. Assumes nothing.
 use borrow.Author.Needs.{needs}
-use Rattle.sheets.specs.Sheets.{stepAt}
-use Rattle.sheets.proofs.step.step_at.Statement.{statement}
-use Rattle.sheets.proofs.step.step_at.Tie as tie
+use Rattle.steps.specs.Steps.{stepAt}
+use Rattle.steps.proofs.step.step_at.Statement.{statement}
+use Rattle.steps.proofs.step.step_at.Tie as tie
 
 mul-at : tie.Need-mul-at
 mul-at c = search needs

@@ -9,9 +9,9 @@ use records::Verdict;
 use records::or_else;
 use records::refuse_unless;
 ghost use mathlib.Core.Path.{_≡_};
-ghost use Rattle.sheets.specs.Sheets.{stepFault, jumpFault};
+ghost use Rattle.steps.specs.Steps.{stepFault, jumpFault};
 
-pub(crate) fn step_fault(step: Step) -> Verdict
+pub fn step_fault(step: Step) -> Verdict
     ensures { λ r. ⌜ r ≡ stepFault step ⌝ }
 {
     let rest = refuse_unless(true, 0, 0);
