@@ -7,114 +7,82 @@ use image::Settings;
 
 // Length, then the lowest address, and there 2 before 3.
 pub(crate) fn try_read_order() {
+    try_read(b"read, 79 bytes:", 0x20, 0xC0, 79);
+    try_read(b"read, then 80:", 0x20, 0xC0, 80);
+    try_read(b"read, then byte 1 mended:", 0, 0xC0, 80);
+    try_read(b"read, then bit 7 mended:", 0, 0x40, 80);
+    try_read(b"read, then byte 7 mended:", 0, 0x10, 80);
+}
+
+// The blank image with two bytes of its first group, cut to a length.
+fn try_read(name: &[u8], one: u8, seven: u8, length: usize) {
     let mut image = [0u8; 80];
-    image[1] = 0x20;
-    image[7] = 0xC0;
-    try_read(b"read, 79 bytes:", &image[0..79]);
-    try_read(b"read, then 80:", &image);
-    image[1] = 0;
-    try_read(b"read, then byte 1 mended:", &image);
-    image[7] = 0x40;
-    try_read(b"read, then bit 7 mended:", &image);
-    image[7] = 0x10;
-    try_read(b"read, then byte 7 mended:", &image);
+    image[1] = one;
+    image[7] = seven;
+    if length <= 80 {
+        let reading = image::read(&image[0..length]);
+        print_verdict(name, reading.number, reading.place);
+    }
 }
 
 // Length before settings.
 pub(crate) fn try_write_order() {
     let mut short = [0u8; 79];
-    let cut = writing::write(wide(), &mut short);
-    print_verdict(b"write, 79 bytes:", cut.number, cut.place);
+    try_write(b"write, 79 bytes:", 32, &mut short);
     let mut buffer = [0u8; 80];
-    let refused = writing::write(wide(), &mut buffer);
-    print_verdict(b"write, then 80:", refused.number, refused.place);
-    let accepted = writing::write(driving(), &mut buffer);
-    print_verdict(
-        b"write, then hysteresis mended:",
-        accepted.number,
-        accepted.place,
-    );
+    try_write(b"write, then 80:", 32, &mut buffer);
+    try_write(b"write, then hysteresis mended:", 31, &mut buffer);
 }
 
-fn try_read(name: &[u8], image: &[u8]) {
-    let reading = image::read(image);
-    print_verdict(name, reading.number, reading.place);
+fn try_write(name: &[u8], hysteresis: u8, buffer: &mut [u8]) {
+    let verdict = writing::write(driving(hysteresis), buffer);
+    print_verdict(name, verdict.number, verdict.place);
 }
 
-// The settings of the blank image, but that the engine drives PDO1.
-fn driving() -> Settings {
+// The settings of the blank image, but that the engine drives PDO1, and a hysteresis on VP1.
+fn driving(hysteresis: u8) -> Settings {
     let mut image = writing::blank();
     image[7] = 0x10;
     let reading = image::read(&image);
-    reading.settings
-}
-
-// The same with hysteresis 32 on VP1.
-fn wide() -> Settings {
-    let mut settings = driving();
-    settings.groups[0].over.hysteresis = 32;
+    let mut settings = reading.settings;
+    settings.groups[0].over.hysteresis = hysteresis;
     settings
 }
 
-// Channel 3 has counted once, though its filter is 0.
-fn counted() -> Bank {
+// Channel 3 has counted, though its filter is 0.
+fn counted(count: u16) -> Bank {
     let mut bank = detectors::start();
-    bank.channels[3].analog.count = 1;
+    bank.channels[3].analog.count = count;
     bank
 }
 
 // Length, settings, state, level byte. VP1 has sample 1 over threshold 0.
 pub(crate) fn try_tick_order() {
-    let mut frame = [0u8; 11];
-    frame[0] = 1;
-    frame[10] = 32;
-    try_tick(
-        b"detector tick, 10 bytes:",
-        wide(),
-        counted(),
-        &frame[0..10],
-    );
-    try_tick(b"detector tick, then 11:", wide(), counted(), &frame);
-    try_tick(
-        b"detector tick, then settings mended:",
-        driving(),
-        counted(),
-        &frame,
-    );
-    try_tick(
-        b"detector tick, then state mended:",
-        driving(),
-        detectors::start(),
-        &frame,
-    );
-    frame[10] = 31;
-    try_tick(
-        b"detector tick, then level byte 31:",
-        driving(),
-        detectors::start(),
-        &frame,
-    );
+    try_tick(b"detector tick, 10 bytes:", 32, 1, 32, 10);
+    try_tick(b"detector tick, then 11:", 32, 1, 32, 11);
+    try_tick(b"detector tick, then settings mended:", 31, 1, 32, 11);
+    try_tick(b"detector tick, then state mended:", 31, 0, 32, 11);
+    try_tick(b"detector tick, then level byte 31:", 31, 0, 31, 11);
 }
 
-fn try_tick(name: &[u8], settings: Settings, bank: Bank, frame: &[u8]) {
-    let detected = detectors::tick(settings, bank, frame);
-    print_items(
-        name,
-        detected.number,
-        detected.place,
-        detected.faults,
-        detected.warnings,
-    );
+fn try_tick(name: &[u8], hysteresis: u8, count: u16, levels: u8, length: usize) {
+    let frame = [1, 0, 0, 0, 0, 0, 0, 0, 0, 0, levels];
+    if length <= 11 {
+        let detected = detectors::tick(driving(hysteresis), counted(count), &frame[0..length]);
+        let faults = detected.faults;
+        let warnings = detected.warnings;
+        print_items(name, detected.number, detected.place, faults, warnings);
+    }
 }
 
 // Settings, then the word.
 pub(crate) fn try_pin_order() {
-    try_pins(b"pins, outputs 1024:", wide(), 1024);
-    try_pins(b"pins, then settings mended:", driving(), 1024);
-    try_pins(b"pins, then outputs 1023:", driving(), 1023);
+    try_pins(b"pins, outputs 1024:", 32, 1024);
+    try_pins(b"pins, then settings mended:", 31, 1024);
+    try_pins(b"pins, then outputs 1023:", 31, 1023);
 }
 
-fn try_pins(name: &[u8], settings: Settings, outputs: u16) {
-    let driven = pins::pins(settings, outputs);
+fn try_pins(name: &[u8], hysteresis: u8, outputs: u16) {
+    let driven = pins::pins(driving(hysteresis), outputs);
     print_item(name, driven.number, driven.place, driven.pins);
 }

@@ -1,14 +1,14 @@
--- `values::sheets_made::mended`: so many steps of sixteen bytes. Assumes nothing.
-use Prim.Native.Nat.{_-_, _*_, _≤_}
+-- `values::sheets_made::mended`: at most 1040 bytes. Assumes nothing.
+use Prim.Native.Nat.{_-_, _≤_}
 use borrow.Author.Needs.{needs}
 use Rattle.values.proofs.sheets_made.mended.Statement.{statement}
 use Rattle.values.proofs.sheets_made.mended.Tie as tie
 
 abbrev Inv-loop : tie.InvT-loop
-Inv-loop steps good sheet₀ i₀ sheet i = (steps ≤ 65) × (i ≤ 16 * steps)
+Inv-loop steps good sheet₀ i₀ sheet i = i ≤ 1040
 
 abbrev μ-loop : tie.MeasureT-loop
-μ-loop steps good sheet₀ i₀ sheet i = 16 * steps - i
+μ-loop steps good sheet₀ i₀ sheet i = 1040 - i
 
 waits-requires : tie.Need-waits-requires Inv-loop μ-loop
 waits-requires c κs = search needs
@@ -18,9 +18,6 @@ faulty-requires c κs = search needs
 
 loop-holds : tie.Need-loop-holds Inv-loop μ-loop
 loop-holds c = search needs
-
-mul-loop : tie.Need-mul-loop Inv-loop μ-loop
-mul-loop c = search needs
 
 array-read-sheet : tie.Need-array-read-sheet Inv-loop μ-loop
 array-read-sheet c = search needs
@@ -40,6 +37,9 @@ loop-again c = search needs
 returns : tie.Need-returns Inv-loop μ-loop
 returns c = search needs
 
+returns-2 : tie.Need-returns-2 Inv-loop μ-loop
+returns-2 c = search needs
+
 pub mended-spec : {M : Type 1} → statement M
 mended-spec =
     tie.close
@@ -49,10 +49,10 @@ mended-spec =
     waits-requires
     faulty-requires
     loop-holds
-    mul-loop
     array-read-sheet
     array-write-sheet
     add-i
     loop-less
     loop-again
-    returns)
+    returns
+    returns-2)
