@@ -12,8 +12,11 @@ use Rattle.text.specs.Text.{emptyLine, appended, written as lineText, decimalTe
 use Rattle.text.specs.declared.Line.{Line}
 use Rattle.console.specs.Refusal.{refusalLine}
 use Rattle.image.specs.Reading.{reading}
+use Rattle.image.specs.declared.settings.Group.{Group}
 use Rattle.image.specs.declared.settings.Settings.{Settings}
 use Rattle.writing.specs.Writing.{settingsVerdict, writeVerdict, written, blankImage}
+use Rattle.channels.specs.Run.{ranOver}
+use Rattle.channels.specs.declared.channel.Channel.{Channel}
 use Rattle.detectors.specs.Bank.{startBank}
 use Rattle.detectors.specs.Tick.{ticked, engineTicked}
 use Rattle.detectors.specs.declared.bank.Bank.{Bank}
@@ -52,7 +55,10 @@ write settings buffer = (one-answer (writeVerdict settings buffer), one-answer (
 pub blank : OneAnswer blankImage
 blank = one-answer blankImage
 
--- ---- detectors and pins
+-- ---- channels, detectors and pins
+
+pub channel-run : (channel : Channel) (group : Group) (frames : List ℕ) (n k : ℕ) → OneAnswer (ranOver group frames k channel n)
+channel-run channel group frames n k = one-answer (ranOver group frames k channel n)
 
 pub start-bank : OneAnswer startBank
 start-bank = one-answer startBank

@@ -11,7 +11,8 @@ use Rattle.image.specs.Reading.{reading}
 use Rattle.image.specs.declared.settings.Settings.{Settings}
 use Rattle.writing.specs.Writing.{settingsVerdict}
 use Rattle.detectors.specs.Bank.{startBank, bankVerdict}
-use Rattle.detectors.specs.Tick.{frameAt, engineTicked}
+use Rattle.channels.specs.Frame.{frameAt}
+use Rattle.detectors.specs.Tick.{engineTicked}
 use Rattle.detectors.specs.declared.bank.Bank.{Bank}
 use Rattle.detectors.specs.declared.ticks.Detected.{Detected}
 use Rattle.pins.specs.Pins.{driven}

@@ -10,7 +10,8 @@ use Rattle.image.specs.Reading.{groupAt}
 use Rattle.writing.specs.Writing.{settingsVerdict}
 use Rattle.image.specs.declared.settings.Settings.{Settings}
 use Rattle.detectors.specs.Bank.{startBank, bankAfter, bankVerdict, channelAt}
-use Rattle.detectors.specs.Tick.{frameAt, bankAt, framesVerdict, detectedOver, ticked, engineTicked}
+use Rattle.channels.specs.Frame.{frameAt}
+use Rattle.detectors.specs.Tick.{bankAt, framesVerdict, detectedOver, ticked, engineTicked}
 use Rattle.detectors.specs.declared.bank.Bank.{Bank}
 use Rattle.detector_laws.proofs.Release.{ReleaseLevels}
 use Rattle.detector_laws.proofs.Release as release

@@ -14,7 +14,7 @@ use Rattle.image.specs.Reading.{groupAt, noLogic}
 use Rattle.writing.specs.Writing.{settingByte, settingsVerdict, codeVerdict, groupBytes, logicByte, pinLogicByte, hasLogic}
 use Rattle.image.specs.declared.settings.Logic.{Logic}
 use Rattle.image.specs.declared.settings.Settings.{Settings}
-use Rattle.detectors.specs.Channel.{ticks}
+use Rattle.channels.specs.Channel.{ticks}
 use Rattle.records.proofs.VerdictLaws.{accepted-tests}
 
 -- a value stands in a table

@@ -10,7 +10,7 @@ use Rattle.records.proofs.ListLaws.{each-at}
 use Rattle.records.proofs.VerdictLaws.{first-accepted}
 use Rattle.image.specs.Reading.{groupAt}
 use Rattle.image.specs.declared.settings.Settings.{Settings}
-use Rattle.detectors.specs.Channel.{startChannel}
+use Rattle.channels.specs.Channel.{startChannel}
 use Rattle.detectors.specs.Bank.{channelAt, nextChannel, bankAfter, startBank, inRange, bankVerdict}
 use Rattle.detectors.specs.declared.bank.Bank.{Bank}
 use Rattle.detector_laws.proofs.ChannelRange.{InRange, in-range-true, true-in-range}

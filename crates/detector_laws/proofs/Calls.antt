@@ -13,7 +13,8 @@ use Rattle.records.proofs.WordLaws.{wordOf-lt}
 use Rattle.writing.specs.Writing.{settingsVerdict}
 use Rattle.image.specs.declared.settings.Settings.{Settings}
 use Rattle.detectors.specs.Bank.{faultsOf, warningsOf, bankVerdict, startBank}
-use Rattle.detectors.specs.Tick.{frameAt, bankAt, Words, wordsAt, wordsOver, trace, levelsVerdict, framesVerdict, detectedOver, ticked, engineTicked}
+use Rattle.channels.specs.Frame.{frameAt}
+use Rattle.detectors.specs.Tick.{bankAt, Words, wordsAt, wordsOver, trace, levelsVerdict, framesVerdict, detectedOver, ticked, engineTicked}
 use Rattle.detectors.specs.declared.bank.Bank.{Bank}
 use Rattle.detectors.specs.declared.ticks.Detected.{Detected}
 use Rattle.records.proofs.VerdictLaws.{numberOf}

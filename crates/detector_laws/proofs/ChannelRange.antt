@@ -10,11 +10,11 @@ use Rattle.image.specs.Groups.{isVX}
 use Rattle.image.specs.Reading.{noLogic}
 use Rattle.image.specs.declared.settings.Logic.{Logic}
 use Rattle.image.specs.declared.settings.Group.{Group}
-use Rattle.detectors.specs.Channel.{ticks, filterAfter, logicAfter, pulseNow, leftAfter, channelAfter, startFilter, startChannel}
+use Rattle.channels.specs.Channel.{ticks, filterAfter, logicAfter, pulseNow, leftAfter, channelAfter, startFilter, startChannel}
 use Rattle.detectors.specs.Bank.{leftInRange, quiet, inRange}
-use Rattle.detectors.specs.declared.channel.Channel.{Channel}
-use Rattle.detectors.specs.declared.channel.Filter.{Filter}
-use Rattle.detectors.specs.declared.channel.Sample.{Sample}
+use Rattle.channels.specs.declared.channel.Channel.{Channel}
+use Rattle.channels.specs.declared.channel.Filter.{Filter}
+use Rattle.channels.specs.declared.channel.Sample.{Sample}
 use Rattle.detector_laws.proofs.AcceptedSettings.{AcceptedLogic, pulse-lasts}
 
 -- ---- what the range says

@@ -12,9 +12,10 @@ use Rattle.image.specs.declared.settings.Input.{Input}
 use Rattle.image.specs.declared.settings.Input.the-variants.{VpMid, VpLow, VpUltralow, VhLow, VhHigh, AnalogFault, LogicFault, LogicFaultAnalogWarning, NoFunction}
 use Rattle.image.specs.declared.settings.Group.{Group}
 use Rattle.image.specs.declared.settings.Settings.{Settings}
-use Rattle.detectors.specs.Channel.{channelAfter, faultBit, warningBit}
-use Rattle.detectors.specs.Bank.{channelAt, measured, levelAt, sampleAt, faultsOf, warningsOf, startBank}
-use Rattle.detectors.specs.Tick.{frameAt, bankAt, Words, wordsAt}
+use Rattle.channels.specs.Channel.{channelAfter, faultBit, warningBit}
+use Rattle.channels.specs.Frame.{frameAt, measured, levelAt, sampleAt}
+use Rattle.detectors.specs.Bank.{channelAt, faultsOf, warningsOf, startBank}
+use Rattle.detectors.specs.Tick.{bankAt, Words, wordsAt}
 use Rattle.detector_laws.proofs.BankRange.{channel-after}
 
 -- ---- what the two runs must agree on: over n frames, "the group, the own sample and level, and with function 2 the sister's sample"

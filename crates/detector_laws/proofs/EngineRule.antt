@@ -10,7 +10,8 @@ use Rattle.records.specs.Lists.{each}
 use Rattle.records.proofs.ListLaws.{each-at, each-length, each-ext, each-from}
 use Rattle.image.specs.declared.settings.Settings.{Settings}
 use Rattle.detectors.specs.Bank.{channelAt, bankAfter, faultsOf, warningsOf, startBank}
-use Rattle.detectors.specs.Tick.{frameAt, bankAt, Words, noWords, wordsAt, wordsOver, trace}
+use Rattle.channels.specs.Frame.{frameAt}
+use Rattle.detectors.specs.Tick.{bankAt, Words, noWords, wordsAt, wordsOver, trace}
 use Rattle.detectors.specs.declared.bank.Bank.{Bank}
 use Rattle.detector_laws.proofs.ChannelRule.{Agree, SameBits, same-channel, same-bits}
 

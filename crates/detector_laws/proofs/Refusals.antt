@@ -15,7 +15,8 @@ use Rattle.records.proofs.VerdictLaws.{orElse-pass, orElse-hit, first-accepted,
 use Rattle.writing.specs.Writing.{settingsVerdict}
 use Rattle.image.specs.declared.settings.Settings.{Settings}
 use Rattle.detectors.specs.Bank.{bankVerdict}
-use Rattle.detectors.specs.Tick.{frameAt, bankAt, wordsOver, trace, levelsInRange, levelsVerdict, framesVerdict, detected, detectedOver}
+use Rattle.channels.specs.Frame.{frameAt}
+use Rattle.detectors.specs.Tick.{bankAt, wordsOver, trace, levelsInRange, levelsVerdict, framesVerdict, detected, detectedOver}
 use Rattle.detectors.specs.declared.bank.Bank.{Bank}
 use Rattle.detectors.specs.declared.ticks.Detected.{Detected}
 use Rattle.detector_laws.proofs.BankRange.{bank-zero}

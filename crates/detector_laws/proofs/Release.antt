@@ -4,7 +4,7 @@ use native.Mathlib.Omega.{arith}
 use Rattle.image.specs.Reading.{groupAt}
 use Rattle.image.specs.declared.settings.Settings.{Settings}
 use Rattle.image.specs.declared.settings.Threshold.{Threshold}
-use Rattle.detectors.specs.Channel.{overRelease, underRelease}
+use Rattle.channels.specs.Channel.{overRelease, underRelease}
 
 -- the level at which Over lets go, of a threshold that is a byte, whatever the hysteresis
 pub over-release : (threshold : Threshold) → threshold .level < 256 → overRelease threshold ≤ 255

@@ -10,8 +10,9 @@ use Rattle.image.specs.Reading.{groupAt}
 use Rattle.writing.specs.Writing.{settingsVerdict}
 use Rattle.image.specs.declared.settings.Input.{Input}
 use Rattle.image.specs.declared.settings.Settings.{Settings}
-use Rattle.detectors.specs.Bank.{channelAt, levelAt, sampleAt, bankAfter, startBank, bankVerdict}
-use Rattle.detectors.specs.Tick.{frameAt, bankAt}
+use Rattle.channels.specs.Frame.{frameAt, levelAt, sampleAt}
+use Rattle.detectors.specs.Bank.{channelAt, bankAfter, startBank, bankVerdict}
+use Rattle.detectors.specs.Tick.{bankAt}
 use Rattle.detectors.specs.declared.bank.Bank.{Bank}
 use Rattle.records.proofs.VerdictLaws.{numberOf}
 use Rattle.detector_laws.proofs.AcceptedSettings.{accepted-logic}

@@ -1,3 +1,2 @@
-pub mod ChannelLaws
 pub mod BankLaws
 pub mod TickLaws

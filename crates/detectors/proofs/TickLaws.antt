@@ -3,46 +3,36 @@ use Prim.Native.Nat.{ℕ, zero, suc, _+_, _-_, _*_, _≤_, _<_}
 use mathlib.Core.Path.{_≡_, refl, ap, ap₂, sym, _∙_}
 use mathlib.Core.Bool.{Bool}
 use mathlib.Core.List.{List, _++_}
-use native.Mathlib.Decide.{ℕ-discrete}
 use native.Mathlib.Nat.{zero-add, not-suc-le-zero}
-use native.Mathlib.Numerals.{add-one}
 use native.Mathlib.Omega.{arith}
 use borrow.Author.Tests.{eq-eqb, ne-eqb}
 use lib.Dec.{ltb}
-use lib.ListN.{length, getD, take, drop}
+use lib.ListN.{length, getD, drop}
 use lib.Seq.{getD-take, getD-drop}
 use Rattle.records.specs.Lists.{each}
 use Rattle.records.specs.Numbers.{wrong-length, bad-word}
 use Rattle.records.specs.Verdicts.{accepted, refusedUnless, orElse, firstRefusal}
 use Rattle.records.specs.declared.verdict.Verdict.{Verdict}
 use Rattle.records.specs.Words.{wordOf}
-use Rattle.records.proofs.ListLaws.{getD-default, each-at, each-length, each-ext, fill-all}
+use Rattle.records.proofs.ListLaws.{each-at, each-length, each-ext, fill-all}
 use Rattle.records.proofs.VerdictLaws.{orElse-pass, orElse-end, first-accepted}
 use Rattle.records.proofs.WordLaws.{wordOf-ext}
-use Rattle.image.specs.Reading.{groupAt, zeroGroup}
+use Rattle.image.specs.Reading.{groupAt}
 use Rattle.writing.specs.Writing.{settingsVerdict}
 use Rattle.image.specs.declared.settings.Group.{Group}
 use Rattle.image.specs.declared.settings.Settings.{Settings}
-use Rattle.detectors.specs.Channel.{channelAfter, faultBit, warningBit, startChannel}
-use Rattle.detectors.specs.Bank.{sampleAt, channelAt, nextChannel, bankAfter, faultsOf, warningsOf, bankVerdict}
-use Rattle.detectors.specs.Tick.{frameAt, bankAt, wordsAt, trace, levelsInRange, noWords, wordsOver, advancedOver, levelsVerdict, framesVerdict, detected, detectedOver}
-use Rattle.detectors.specs.Run.{channelOver, ranOver}
+use Rattle.channels.specs.Channel.{channelAfter, faultBit, warningBit, startChannel}
+use Rattle.channels.specs.Frame.{frameAt, sampleAt}
+use Rattle.detectors.specs.Bank.{channelAt, nextChannel, bankAfter, faultsOf, warningsOf, bankVerdict}
+use Rattle.detectors.specs.Tick.{bankAt, wordsAt, trace, levelsInRange, noWords, wordsOver, advancedOver, levelsVerdict, framesVerdict, detected, detectedOver}
+use Rattle.channels.specs.Run.{channelOver, ranOver}
 use Rattle.detectors.specs.declared.bank.Bank.{Bank}
 use Rattle.detectors.specs.declared.bank.Advanced.{Advanced}
 use Rattle.detectors.specs.declared.ticks.Detected.{Detected}
-use Rattle.detectors.specs.declared.channel.Channel.{Channel}
-use Rattle.detectors.specs.declared.channel.Ran.{Ran}
-use Rattle.detectors.specs.declared.channel.Sample.{Sample}
-use Rattle.detectors.proofs.BankLaws.{fill-here}
+use Rattle.channels.specs.declared.channel.Channel.{Channel}
+use Rattle.channels.specs.declared.channel.Ran.{Ran}
 
 -- ---- a frame
--- the part that is lent for frame i
-pub frame-part : (frames : List ℕ) (i : ℕ) → take (11 * i + 11 - 11 * i) (drop (11 * i) frames) ≡ frameAt frames i
-unfolding frameAt
-frame-part frames i =
-    let eleven : 11 * i + 11 - 11 * i ≡ 11 = omega arith in
-    ap (λ (m : ℕ). take m (drop (11 * i) frames)) eleven
-
 -- the test of its level byte, and the same as the code makes it
 abbrev pub levelsTest : List ℕ → ℕ → Verdict
 levelsTest frames i = refusedUnless (levelsInRange frames i) bad-word 0
@@ -53,20 +43,6 @@ levels-test frames i v is =
     is
     ∙ ap (λ (levels : ℕ). refusedUnless (ltb levels 32) bad-word 0)
     (sym (getD-take 11 (drop (11 * i) frames) 10 0 (omega arith) ∙ getD-drop (11 * i) frames 10 0))
-
--- ---- one channel by itself
-module _ (group : Group) (frames : List ℕ) (k : ℕ) (channel : Channel) where
-  -- one frame more, as a loop takes it
-  pub over-more : (i : ℕ) (sample : Sample) (before after : Channel)
-      → sample ≡ sampleAt (group .input) (take (11 * i + 11 - 11 * i) (drop (11 * i) frames)) k
-      → before ≡ channelOver group frames k channel i
-      → after ≡ channelAfter group sample before
-      → after ≡ channelOver group frames k channel (i + 1)
-  unfolding channelOver
-  over-more i sample before after pins reached step =
-      step
-      ∙ ap₂ (channelAfter group) (pins ∙ ap (λ (frame : List ℕ). sampleAt (group .input) frame k) (frame-part frames i)) reached
-      ∙ ap (channelOver group frames k channel) (sym (add-one i))
 
 -- ---- the bank: each channel goes by itself
 module _ (settings : Settings) (frames : List ℕ) (bank : Bank) where
@@ -124,20 +100,6 @@ module _ (settings : Settings) (frames : List ℕ) (bank : Bank) where
   ran-all n k after faults warnings h all ten channels fault warning =
       rw (words-last n h, word-alone faultBit n h, word-alone warningBit n h, bank-of-alone n h, channels, fault, warning, all, fill-all (λ j. alone j n) (bank .channels) 10 ten)
 
-  -- channel k, as the code reads it where the channels before it have run
-  pub ran-here : (n k : ℕ) (now : List Channel) (d : Group) (e : Channel)
-      → length (settings .groups) ≡ 10
-      → length (bank .channels) ≡ 10
-      → k < 10
-      → now ≡ each (λ j. ranAt n j .channel) 0 k ++ drop k (bank .channels)
-      → ranOver (getD (settings .groups) k d) frames k (getD now k e) n ≡ ranAt n k
-  ran-here n k now d e groups channels h reached =
-      ap₂ (λ (group : Group) (channel : Channel). ranOver group frames k channel n)
-      (getD-default (settings .groups) k d (zeroGroup k) (omega arith))
-      (ap (λ (l : List Channel). getD l k e) reached
-      ∙ fill-here (λ j. ranAt n j .channel) (bank .channels) k e (omega arith)
-      ∙ getD-default (bank .channels) k e startChannel (omega arith))
-
 -- ---- the tests in their order
 module _ (n : ℕ) (settings : Settings) (bank : Bank) (frames : List ℕ) where
   pub refuses-length : (length frames ≡ 11 * n → ⊥) → framesVerdict n settings bank frames ≡ record { number = wrong-length; place = 0 }
@@ -153,14 +115,6 @@ module _ (n : ℕ) (settings : Settings) (bank : Bank) (frames : List ℕ) where
   passes-length h =
       orElse-pass _ _ (rw (eq-eqb (length frames) (11 * n) h))
       ∙ ap (λ (v : Verdict). orElse (settingsVerdict settings) (orElse (bankVerdict settings bank) v)) levels-last
-
-  -- frames that are accepted are as many as the call takes
-  pub accepted-length : framesVerdict n settings bank frames .number ≡ 0 → length frames ≡ 11 * n
-  accepted-length h =
-      elim (ℕ-discrete (length frames) (11 * n)) [
-        | yes p ↦ p
-        | no p ↦ (let one : _≡_ {A = ℕ} 1 0 = sym (ap (λ (v : Verdict). v .number) (refuses-length p)) ∙ h in omega arith)
-      ]
 
   -- ---- the answers, from the verdict that the code holds
   module _ (v : Verdict) (is : v ≡ framesVerdict n settings bank frames) where

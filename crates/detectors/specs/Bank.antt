@@ -1,10 +1,9 @@
 -- Ten channels over one frame. Assumes nothing.
-use Prim.Native.Nat.{ℕ, _-_}
+use Prim.Native.Nat.{ℕ}
 use mathlib.Core.Bool.{Bool, cond, not, _&&_, _||_}
 use mathlib.Core.List.{List}
 use lib.Dec.{ltb, leb, eqb}
 use lib.ListN.{getD}
-use Rattle.records.specs.Bits.{bits}
 use Rattle.records.specs.Words.{wordOf}
 use Rattle.records.specs.Lists.{each}
 use Rattle.records.specs.Numbers.{unreachable}
@@ -12,40 +11,16 @@ use Rattle.records.specs.Verdicts.{refusedUnless, firstRefusal}
 use Rattle.records.specs.declared.verdict.Verdict.{Verdict}
 use Rattle.image.specs.Groups.{isVX}
 use Rattle.image.specs.Reading.{groupAt}
-use Rattle.image.specs.declared.settings.Input.{Input}
-use Rattle.image.specs.declared.settings.Input.the-variants.{VpMid, VpLow, VpUltralow, VhLow, VhHigh, AnalogFault, LogicFault, LogicFaultAnalogWarning, NoFunction}
 use Rattle.image.specs.declared.settings.Logic.{Logic}
 use Rattle.image.specs.declared.settings.Group.{Group}
 use Rattle.image.specs.declared.settings.Settings.{Settings}
-use Rattle.detectors.specs.Channel.{ticks, channelAfter, faultBit, warningBit, startChannel}
-use Rattle.detectors.specs.declared.channel.Channel.{Channel}
-use Rattle.detectors.specs.declared.channel.Sample.{Sample}
+use Rattle.channels.specs.Channel.{ticks, channelAfter, faultBit, warningBit, startChannel}
+use Rattle.channels.specs.Frame.{sampleAt}
+use Rattle.channels.specs.declared.channel.Channel.{Channel}
 use Rattle.detectors.specs.declared.bank.Bank.{Bank}
 
 abbrev pub channelAt : Bank → ℕ → Channel
 channelAt bank k = getD (bank .channels) k startChannel
-
--- ---- what a channel's pins hold in a frame
-
--- "VX function 2 measures the sister pin's sample: VX1 to VX4 take VP1 to VP4, VX5 takes VH. Otherwise the pin's own."
-abbrev pub measured : Input → ℕ → ℕ
-measured VpMid k = k
-measured VpLow k = k
-measured VpUltralow k = k
-measured VhLow k = k
-measured VhHigh k = k
-measured AnalogFault k = k
-measured LogicFault k = k
-measured LogicFaultAnalogWarning k = k - 5
-measured NoFunction k = k
-
--- "logic levels of VX1 to VX5 in bits 0 to 4"; VP and VH have none
-unfoldable pub levelAt : List ℕ → ℕ → Bool
-levelAt frame k = isVX k && eqb (bits (getD frame 10 0) (k - 5) 1) 1
-
--- "A frame is 11 bytes: ten samples by channel"
-unfoldable pub sampleAt : Input → List ℕ → ℕ → Sample
-sampleAt input frame k = record { value = getD frame (measured input k) 0; level = levelAt frame k }
 
 -- ---- one tick
 

@@ -1,4 +1,2 @@
-pub mod Channel
 pub mod Bank
 pub mod Tick
-pub mod Run

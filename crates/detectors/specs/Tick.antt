@@ -3,23 +3,20 @@ use Prim.Native.Nat.{ℕ, zero, suc, _-_, _*_}
 use mathlib.Core.Bool.{Bool, cond}
 use mathlib.Core.List.{List, [], _∷_}
 use lib.Dec.{ltb, eqb}
-use lib.ListN.{length, getD, take, drop}
+use lib.ListN.{length, getD}
 use Rattle.records.specs.Lists.{each}
 use Rattle.records.specs.Numbers.{wrong-length, bad-word}
 use Rattle.records.specs.Verdicts.{refusedUnless, firstRefusal}
 use Rattle.records.specs.declared.verdict.Verdict.{Verdict}
 use Rattle.writing.specs.Writing.{settingsVerdict}
 use Rattle.image.specs.declared.settings.Settings.{Settings}
+use Rattle.channels.specs.Frame.{frameAt}
 use Rattle.detectors.specs.Bank.{bankAfter, faultsOf, warningsOf, bankVerdict}
 use Rattle.detectors.specs.declared.bank.Bank.{Bank}
 use Rattle.detectors.specs.declared.bank.Advanced.{Advanced}
 use Rattle.detectors.specs.declared.ticks.Detected.{Detected}
 
 -- ---- frames one after the other
-
--- frame i of a run of frames of 11 bytes
-unfoldable pub frameAt : List ℕ → ℕ → List ℕ
-frameAt frames i = take 11 (drop (11 * i) frames)
 
 -- the bank after the first n frames
 unfoldable pub bankAt : Settings → List ℕ → Bank → ℕ → Bank

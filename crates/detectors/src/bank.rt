@@ -1,6 +1,6 @@
 // The bank: ten channels, taken and returned by value.
-use crate::channel::Channel;
-use crate::channel::Filter;
+use channels::Channel;
+use channels::Filter;
 use image::Group;
 use image::Logic;
 use image::Settings;
@@ -8,10 +8,10 @@ use records::UNREACHABLE;
 use records::Verdict;
 use records::bit;
 use records::refuse_unless;
-ghost use Prim.Native.Nat.{_≤_, _*_};
+ghost use Prim.Native.Nat.{_<_, _≤_};
 ghost use mathlib.Core.Path.{_≡_};
-ghost use lib.ListN.{length};
-ghost use Rattle.detectors.specs.Bank.{startBank, bankVerdict, leftInRange};
+ghost use Rattle.image.specs.Reading.{groupAt};
+ghost use Rattle.detectors.specs.Bank.{channelAt, startBank, bankVerdict, leftInRange};
 ghost use Rattle.detectors.specs.Tick.{advancedOver};
 ghost use Rattle.detectors.specs.Bank.{quiet as Bank·quiet, inRange};
 
@@ -48,8 +48,6 @@ pub fn start() -> Bank
 // Each channel over n frames by itself: no channel reads another's state.
 pub(crate) fn advance(settings: Settings, bank: Bank, frames: &[u8], n: usize) -> Advanced
     requires { ⌜ 1 ≤ n ⌝ }
-    requires { ⌜ n ≤ 20 ⌝ }
-    requires { ⌜ length (now frames) ≡ 11 * n ⌝ }
     ensures { λ r. ⌜ r ≡ advancedOver n settings bank (now (frames .entry)) ⌝ }
 {
     let mut after = bank;
@@ -57,8 +55,8 @@ pub(crate) fn advance(settings: Settings, bank: Bank, frames: &[u8], n: usize) -
     let mut warnings = 0;
     let mut k = 0;
     while k < 10 {
-        let channel = after.channels[k];
-        let ran = channel.run(settings.groups[k], frames, n, k);
+        let channel = channel_at(bank, k);
+        let ran = channel.run(group_at(settings, k), frames, n, k);
         let next = ran.channel;
         after.channels[k] = next;
         faults += bit(ran.fault, k);
@@ -78,7 +76,7 @@ pub(crate) fn bank_verdict(settings: Settings, bank: Bank) -> Verdict
 {
     let mut k = 0;
     while k < 10 {
-        let holds = in_range(k, settings.groups[k], bank.channels[k]);
+        let holds = in_range(k, group_at(settings, k), channel_at(bank, k));
         let verdict = refuse_unless(holds, UNREACHABLE, k);
         if verdict.number != 0 {
             return verdict;
@@ -86,6 +84,20 @@ pub(crate) fn bank_verdict(settings: Settings, bank: Bank) -> Verdict
         k += 1;
     }
     refuse_unless(true, 0, 0)
+}
+
+fn group_at(settings: Settings, k: usize) -> Group
+    requires { ⌜ k < 10 ⌝ }
+    ensures { λ r. ⌜ r ≡ groupAt settings k ⌝ }
+{
+    settings.groups[k]
+}
+
+fn channel_at(bank: Bank, k: usize) -> Channel
+    requires { ⌜ k < 10 ⌝ }
+    ensures { λ r. ⌜ r ≡ channelAt bank k ⌝ }
+{
+    bank.channels[k]
 }
 
 fn in_range(k: usize, group: Group, channel: Channel) -> bool

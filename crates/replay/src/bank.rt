@@ -1,8 +1,8 @@
 // A bank from a hundred bytes, and compared with them.
 use crate::parts::is_flag;
+use channels::Channel;
+use channels::Filter;
 use detectors::Bank;
-use detectors::Channel;
-use detectors::Filter;
 use records::byte_at;
 use records::word_at;
 ghost use Prim.Native.Nat.{_≤_};

@@ -45,11 +45,11 @@ slice-aggregate-translate-2 c = search needs
 translate-requires : tie.Need-translate-requires
 translate-requires c κs = search needs
 
-slice-aggregate-refusal-of : tie.Need-slice-aggregate-refusal-of
-slice-aggregate-refusal-of c = search needs
+slice-aggregate-refusal : tie.Need-slice-aggregate-refusal
+slice-aggregate-refusal c = search needs
 
-refusal-of-requires : tie.Need-refusal-of-requires
-refusal-of-requires c κs = search needs
+refusal-requires : tie.Need-refusal-requires
+refusal-requires c κs = search needs
 
 print-requires : tie.Need-print-requires
 print-requires c κs = search needs
@@ -85,8 +85,8 @@ play-sheet-spec =
     slice-aggregate-translate
     slice-aggregate-translate-2
     translate-requires
-    slice-aggregate-refusal-of
-    refusal-of-requires
+    slice-aggregate-refusal
+    refusal-requires
     print-requires
     returns
     cast-bytes

@@ -11,26 +11,22 @@ use Rattle.records.specs.Lists.{each}
 use Rattle.records.specs.Words.{wordOf}
 use Rattle.records.proofs.ListLaws.{filled-more}
 use Rattle.records.proofs.WordLaws.{added-more, added-fits}
-use Rattle.image.proofs.SettingsLaws.{ten-groups}
-use Rattle.detectors.specs.declared.channel.Ran.{Ran}
+use Rattle.channels.specs.declared.channel.Ran.{Ran}
 use Rattle.detectors.proofs.BankLaws.{ten-channels}
-use Rattle.detectors.proofs.TickLaws.{ranAt, ran-all, ran-here}
+use Rattle.detectors.proofs.TickLaws.{ranAt, ran-all}
 use Rattle.detectors.proofs.bank.advance.Statement.{statement}
 use Rattle.detectors.proofs.bank.advance.Tie as tie
 
 abbrev Inv-loop : tie.InvT-loop
-Inv-loop frames n settings after₀ faults₀ warnings₀ k₀ after faults warnings k =
+Inv-loop settings bank frames n after₀ faults₀ warnings₀ k₀ after faults warnings k =
     (k ≤ 10)
-    × ((after .channels ≡ each (λ j. ranAt settings frames after₀ n j .channel) 0 k ++ drop k (after₀ .channels))
-    × ((faults ≡ wordOf (λ j. ranAt settings frames after₀ n j .fault) k) × (warnings ≡ wordOf (λ j. ranAt settings frames after₀ n j .warning) k)))
+    × ((after .channels ≡ each (λ j. ranAt settings frames bank n j .channel) 0 k ++ drop k (bank .channels))
+    × ((faults ≡ wordOf (λ j. ranAt settings frames bank n j .fault) k) × (warnings ≡ wordOf (λ j. ranAt settings frames bank n j .warning) k)))
 
 abbrev μ-loop : tie.MeasureT-loop
-μ-loop frames n settings after₀ faults₀ warnings₀ k₀ after faults warnings k = 10 - k
+μ-loop settings bank frames n after₀ faults₀ warnings₀ k₀ after faults warnings k = 10 - k
 
--- what came with the parameters
-groups : (s : tie.Start Inv-loop μ-loop) → length (s .args .t1 .groups) ≡ 10
-groups s = ten-groups (s .args .t1) _ (s .good .0)
-
+-- what came with the bank
 channels : (s : tie.Start Inv-loop μ-loop) → length (s .args .bank .channels) ≡ 10
 channels s = ten-channels (s .args .bank) _ (s .good .1 .0)
 
@@ -38,17 +34,11 @@ loop-holds : tie.Need-loop-holds Inv-loop μ-loop
 unfolding each wordOf
 loop-holds c = (omega arith, (refl, (refl, refl)))
 
-mul-channel : tie.Need-mul-channel Inv-loop μ-loop
-mul-channel c = search needs
+channel-at-requires : tie.Need-channel-at-requires Inv-loop μ-loop
+channel-at-requires c κs = search needs
 
-element-copy-out-channel : tie.Need-element-copy-out-channel Inv-loop μ-loop
-element-copy-out-channel c = search needs
-
-mul-run : tie.Need-mul-run Inv-loop μ-loop
-mul-run c = search needs
-
-element-copy-out-run : tie.Need-element-copy-out-run Inv-loop μ-loop
-element-copy-out-run c = search needs
+group-at-requires : tie.Need-group-at-requires Inv-loop μ-loop
+group-at-requires c κs = search needs
 
 run-requires : tie.Need-run-requires Inv-loop μ-loop
 run-requires c κs = search needs
@@ -56,12 +46,8 @@ run-requires c κs = search needs
 -- the run is that of channel k
 ran : (c : tie.After-run Inv-loop μ-loop)
     → c .run .result
-    ≡ ranAt (c .before .before .before .before .before .before .args .t1) (now (c .before .before .before .before .before .before .args .frames)) (c .before .before .before .before .before .before .args .bank) (c .before .before .before .before .before .before .args .n) (c .before .before .before .before .loop .k)
-ran c =
-    let l = c .before .before .before .before in
-    let s = l .before .before in
-    rw (c .run .ensures)
-    (ran-here (s .args .t1) (now (s .args .frames)) (s .args .bank) (s .args .n) (l .loop .k) (l .loop .after .channels) _ _ (groups s) (channels s) (omega arith) (l .loop .inv .1 .0))
+    ≡ ranAt (c .before .before .before .before .before .before .args .settings) (now (c .before .before .before .before .before .before .args .frames)) (c .before .before .before .before .before .before .args .bank) (c .before .before .before .before .before .before .args .n) (c .before .before .before .before .loop .k)
+ran c = rw (c .run .ensures, c .before .group-at .ensures, c .before .before .channel-at .ensures)
 
 mul-next : tie.Need-mul-next Inv-loop μ-loop
 mul-next c = search needs
@@ -111,7 +97,7 @@ returns : tie.Need-returns Inv-loop μ-loop
 returns c =
     let l = c .before in
     let s = l .before .before in
-    ran-all (s .args .t1) (now (s .args .frames)) (s .args .bank) (s .args .n) (l .loop .k) _ _ _ (s .pre .0) (omega arith) (channels s) (l .loop .inv .1 .0) (l .loop .inv .1 .1 .0) (l .loop .inv .1 .1 .1)
+    ran-all (s .args .settings) (now (s .args .frames)) (s .args .bank) (s .args .n) (l .loop .k) _ _ _ (s .pre) (omega arith) (channels s) (l .loop .inv .1 .0) (l .loop .inv .1 .1 .0) (l .loop .inv .1 .1 .1)
 
 pub advance-spec : {M : Type 1} → statement M
 advance-spec =
@@ -120,10 +106,8 @@ advance-spec =
     Inv-loop
     μ-loop
     loop-holds
-    mul-channel
-    element-copy-out-channel
-    mul-run
-    element-copy-out-run
+    channel-at-requires
+    group-at-requires
     run-requires
     mul-next
     element-set-from-next

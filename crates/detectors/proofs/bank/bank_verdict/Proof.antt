@@ -7,9 +7,8 @@ use borrow.Author.Needs.{needs}
 use Rattle.records.specs.Lists.{each}
 use Rattle.records.specs.Verdicts.{firstRefusal}
 use Rattle.records.proofs.VerdictLaws.{found-hit, found-pass, search-end}
-use Rattle.image.proofs.SettingsLaws.{ten-groups}
 use Rattle.detectors.specs.Bank.{bankVerdict}
-use Rattle.detectors.proofs.BankLaws.{ten-channels, channelTest, channel-test}
+use Rattle.detectors.proofs.BankLaws.{channelTest}
 use Rattle.detectors.proofs.bank.bank_verdict.Statement.{statement}
 use Rattle.detectors.proofs.bank.bank_verdict.Tie as tie
 
@@ -23,17 +22,11 @@ loop-holds : tie.Need-loop-holds Inv-loop μ-loop
 unfolding bankVerdict
 loop-holds c = (omega arith, refl)
 
-mul-in-range : tie.Need-mul-in-range Inv-loop μ-loop
-mul-in-range c = omega arith
+group-at-requires : tie.Need-group-at-requires Inv-loop μ-loop
+group-at-requires c κs = search needs
 
-element-copy-out-in-range : tie.Need-element-copy-out-in-range Inv-loop μ-loop
-element-copy-out-in-range c = omega arith
-
-mul-in-range-2 : tie.Need-mul-in-range-2 Inv-loop μ-loop
-mul-in-range-2 c = omega arith
-
-element-copy-out-in-range-2 : tie.Need-element-copy-out-in-range-2 Inv-loop μ-loop
-element-copy-out-in-range-2 c = omega arith
+channel-at-requires : tie.Need-channel-at-requires Inv-loop μ-loop
+channel-at-requires c κs = search needs
 
 in-range-requires : tie.Need-in-range-requires Inv-loop μ-loop
 in-range-requires c κs = search needs
@@ -44,11 +37,10 @@ refuse-unless-requires c κs = search needs
 -- the test is that of channel k
 tested : (c : tie.After-refuse-unless Inv-loop μ-loop)
     → c .refuse-unless .result
-    ≡ channelTest (c .before .before .before .before .before .before .args .t1) (c .before .before .before .before .before .before .args .t2) (c .before .before .before .before .before .loop .k)
+    ≡ channelTest (c .before .before .before .before .before .before .args .settings) (c .before .before .before .before .before .before .args .bank) (c .before .before .before .before .before .loop .k)
 tested c =
-    let l = c .before .before .before .before .before in
-    let s = l .before in
-    channel-test (s .args .t1) (s .args .t2) (l .loop .k) _ _ _ _ (ten-groups (s .args .t1) _ (s .good .0)) (ten-channels (s .args .t2) _ (s .good .1 .0)) (omega arith) (c .before .in-range .ensures) (c .refuse-unless .ensures)
+    let r = c .before in
+    rw (c .refuse-unless .ensures, r .in-range .ensures, r .before .channel-at .ensures, r .before .before .group-at .ensures)
 
 returns : tie.Need-returns Inv-loop μ-loop
 returns c =
@@ -79,10 +71,8 @@ bank-verdict-spec =
     Inv-loop
     μ-loop
     loop-holds
-    mul-in-range
-    element-copy-out-in-range
-    mul-in-range-2
-    element-copy-out-in-range-2
+    group-at-requires
+    channel-at-requires
     in-range-requires
     refuse-unless-requires
     returns

@@ -1,7 +1,7 @@
 -- `detectors::bank::in_range` meets its contract: its four tests are the definition's. Assumes nothing.
 use borrow.Author.Needs.{needs}
 use Rattle.detectors.specs.Bank.{inRange}
-use Rattle.detectors.specs.Channel.{ticks}
+use Rattle.channels.specs.Channel.{ticks}
 use Rattle.detectors.proofs.bank.in_range.Statement.{statement}
 use Rattle.detectors.proofs.bank.in_range.Tie as tie
 

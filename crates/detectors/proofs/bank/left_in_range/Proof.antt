@@ -1,6 +1,6 @@
 -- `detectors::bank::left_in_range` meets its contract: its tests are the definition's. Assumes nothing.
 use Rattle.detectors.specs.Bank.{leftInRange}
-use Rattle.detectors.specs.Channel.{ticks}
+use Rattle.channels.specs.Channel.{ticks}
 use Rattle.detectors.proofs.bank.left_in_range.Statement.{statement}
 use Rattle.detectors.proofs.bank.left_in_range.Tie as tie
 

@@ -1,8 +1,6 @@
--- `detectors::ticks::detect` meets its contract: frames that pass the tests are as many as the call takes. Assumes nothing.
-use mathlib.Core.Path.{ap, sym, _∙_}
+-- `detectors::ticks::detect` meets its contract: where a test refuses, the bank as received; else the bank advanced. Assumes nothing.
 use borrow.Author.Needs.{needs}
-use Rattle.records.specs.declared.verdict.Verdict.{Verdict}
-use Rattle.detectors.proofs.TickLaws.{accepted-length, detected-refused, detected-accepted}
+use Rattle.detectors.proofs.TickLaws.{detected-refused, detected-accepted}
 use Rattle.detectors.proofs.ticks.detect.Statement.{statement}
 use Rattle.detectors.proofs.ticks.detect.Tie as tie
 
@@ -13,9 +11,7 @@ returns : tie.Need-returns
 returns c = detected-refused _ _ _ _ _ (c .before .frames-verdict .ensures) (c .if1 .taken)
 
 advance-requires : tie.Need-advance-requires
-advance-requires c κs =
-    let whole = sym (ap (λ (v : Verdict). v .number) (c .before .frames-verdict .ensures)) ∙ c .if1 .left in
-    (c .before .before .before .pre .0, (c .before .before .before .pre .1, accepted-length _ _ _ _ whole))
+advance-requires c κs = search needs
 
 returns-2 : tie.Need-returns-2
 returns-2 c =
