@@ -140,11 +140,12 @@ fn read_group(k: usize, part: &[u8]) -> Group
     let under = read_threshold(part[2], part[3]);
     let logic = read_logic(k, part[6]);
     let output = read_output(part[7]);
+    let timing = part[4];
     Group {
         over,
         under,
-        delay: codes::time(field(part[4], 2, 3)),
-        faults: codes::fault_type(field(part[4], 0, 2)),
+        delay: codes::time(field(timing, 2, 3)),
+        faults: codes::fault_type(field(timing, 0, 2)),
         input: codes::input(k, part[5]),
         logic,
         output,
