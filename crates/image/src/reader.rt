@@ -31,20 +31,14 @@ pub fn read(image: &[u8]) -> Reading
     ensures { λ r. ⌜ r ≡ reading (now (image .entry)) ⌝ }
 {
     let verdict = image_verdict(image);
-    let number = verdict.number;
-    let place = verdict.place;
-    if number != 0 {
-        let settings = settings::zero();
-        return Reading {
-            number,
-            place,
-            settings,
-        };
-    }
-    let settings = read_groups(image);
+    let settings = if verdict.number == 0 {
+        read_groups(image)
+    } else {
+        settings::zero()
+    };
     Reading {
-        number,
-        place,
+        number: verdict.number,
+        place: verdict.place,
         settings,
     }
 }
