@@ -31,20 +31,14 @@ pub fn read(image: &[u8]) -> Reading
     ensures { λ r. ⌜ r ≡ reading (now (image .entry)) ⌝ }
 {
     let verdict = image_verdict(image);
-    let number = verdict.number;
-    let place = verdict.place;
-    if number != 0 {
-        let settings = settings::zero();
-        return Reading {
-            number,
-            place,
-            settings,
-        };
-    }
-    let settings = read_groups(image);
+    let settings = if verdict.number == 0 {
+        read_groups(image)
+    } else {
+        settings::zero()
+    };
     Reading {
-        number,
-        place,
+        number: verdict.number,
+        place: verdict.place,
         settings,
     }
 }
@@ -140,11 +134,12 @@ fn read_group(k: usize, part: &[u8]) -> Group
     let under = read_threshold(part[2], part[3]);
     let logic = read_logic(k, part[6]);
     let output = read_output(part[7]);
+    let timing = part[4];
     Group {
         over,
         under,
-        delay: codes::time(field(part[4], 2, 3)),
-        faults: codes::fault_type(field(part[4], 0, 2)),
+        delay: codes::time(field(timing, 2, 3)),
+        faults: codes::fault_type(field(timing, 0, 2)),
         input: codes::input(k, part[5]),
         logic,
         output,

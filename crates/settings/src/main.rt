@@ -44,31 +44,34 @@ fn group_line(k: usize, group: Group, normal: &[u8]) -> Line {
     let logic = group.logic;
     let output = group.output;
     let mut line = names::channel(text::empty(), k);
-    line = fault_items(line, group).word(b" logic");
-    line = logic_items(line, logic).word(b" output ");
-    line = output_names(line, output).word(b" normal ");
-    line.bytes(normal).word(b"\n")
+    line = fault_items(limit_items(line, group), group);
+    line = output_names(logic_items(line, logic), output);
+    line.word(b" normal ").bytes(normal).word(b"\n")
+}
+
+fn limit_items(line: Line, group: Group) -> Line {
+    let over = group.over;
+    let under = group.under;
+    threshold_items(threshold_items(line, b" over", over), b" under", under)
+}
+
+fn threshold_items(line: Line, name: &[u8], threshold: Threshold) -> Line {
+    line.word(name)
+        .item(threshold.level as u64)
+        .item(threshold.hysteresis as u64)
 }
 
 fn fault_items(line: Line, group: Group) -> Line {
-    let over = group.over;
-    let under = group.under;
     let faults = group.faults;
     let input = group.input;
-    let mut all = threshold_items(line.word(b" over"), over);
-    all = threshold_items(all.word(b" under"), under);
-    all = all.word(b" delay").item(group.delay as u64);
+    let mut all = line.word(b" delay").item(group.delay as u64);
     all = names::fault_type(all.word(b" faults "), faults);
     names::input(all.word(b" input "), input)
 }
 
-fn threshold_items(line: Line, threshold: Threshold) -> Line {
-    line.item(threshold.level as u64)
-        .item(threshold.hysteresis as u64)
-}
-
 fn logic_items(line: Line, logic: Logic) -> Line {
-    line.item(flag(logic.invert))
+    line.word(b" logic")
+        .item(flag(logic.invert))
         .item(flag(logic.edge))
         .item(logic.pulse as u64)
         .item(logic.delay as u64)
@@ -81,5 +84,6 @@ fn flag(on: bool) -> u64 {
 fn output_names(line: Line, output: Output) -> Line {
     let source = output.source;
     let pull = output.pull;
-    names::pull(names::source(line, source).word(b" "), pull)
+    let all = names::source(line.word(b" output "), source);
+    names::pull(all.word(b" "), pull)
 }

@@ -6,60 +6,82 @@ use image::Source;
 use text::Line;
 
 pub(crate) fn channel(line: Line, k: usize) -> Line {
-    if k < 4 {
-        line.word(b"VP").decimal(k as u64 + 1)
-    } else if k == 4 {
-        line.word(b"VH")
-    } else {
-        line.word(b"VX").decimal(k as u64 - 4)
-    }
+    listed(line, b"VP1 VP2 VP3 VP4 VH VX1 VX2 VX3 VX4 VX5", k)
 }
 
 pub(crate) fn fault_type(line: Line, faults: FaultType) -> Line {
-    match faults {
-        FaultType::Over => line.word(b"over"),
-        FaultType::UnderOrOver => line.word(b"both"),
-        FaultType::Under => line.word(b"under"),
-        FaultType::Off => line.word(b"off"),
-    }
+    let number = match faults {
+        FaultType::Over => 0,
+        FaultType::UnderOrOver => 1,
+        FaultType::Under => 2,
+        FaultType::Off => 3,
+    };
+    listed(line, b"over both under off", number)
 }
 
 pub(crate) fn input(line: Line, input: Input) -> Line {
-    match input {
-        Input::VpMid => line.word(b"mid"),
-        Input::VpLow => line.word(b"low"),
-        Input::VpUltralow => line.word(b"ultralow"),
-        Input::VhLow => line.word(b"vh-low"),
-        Input::VhHigh => line.word(b"vh-high"),
-        Input::AnalogFault => line.word(b"analog"),
-        Input::LogicFault => line.word(b"logic"),
-        Input::LogicFaultAnalogWarning => line.word(b"logic-warn"),
-        Input::NoFunction => line.word(b"none"),
-    }
+    let number = match input {
+        Input::VpMid => 0,
+        Input::VpLow => 1,
+        Input::VpUltralow => 2,
+        Input::VhLow => 3,
+        Input::VhHigh => 4,
+        Input::AnalogFault => 5,
+        Input::LogicFault => 6,
+        Input::LogicFaultAnalogWarning => 7,
+        Input::NoFunction => 8,
+    };
+    listed(
+        line,
+        b"mid low ultralow vh-low vh-high analog logic logic-warn none",
+        number,
+    )
 }
 
 pub(crate) fn source(line: Line, source: Source) -> Line {
-    match source {
-        Source::Disabled => line.word(b"disabled"),
-        Source::Engine => line.word(b"engine"),
-        Source::DrivenLow => line.word(b"low"),
-        Source::DrivenHigh => line.word(b"high"),
-    }
+    let number = match source {
+        Source::Disabled => 0,
+        Source::Engine => 1,
+        Source::DrivenLow => 2,
+        Source::DrivenHigh => 3,
+    };
+    listed(line, b"disabled engine low high", number)
 }
 
 pub(crate) fn pull(line: Line, pull: Pull) -> Line {
-    match pull {
-        Pull::Unpulled => line.word(b"none"),
-        Pull::Vddcap300k => line.word(b"300k"),
-        Pull::WeakVp1 => line.word(b"weak-vp1"),
-        Pull::PushPullVp1 => line.word(b"push-vp1"),
-        Pull::WeakVp2 => line.word(b"weak-vp2"),
-        Pull::PushPullVp2 => line.word(b"push-vp2"),
-        Pull::WeakVp3 => line.word(b"weak-vp3"),
-        Pull::PushPullVp3 => line.word(b"push-vp3"),
-        Pull::WeakVp4 => line.word(b"weak-vp4"),
-        Pull::PushPullVp4 => line.word(b"push-vp4"),
-        Pull::WeakVddcap => line.word(b"weak-vddcap"),
-        Pull::PushPullVddcap => line.word(b"push-vddcap"),
+    let number = match pull {
+        Pull::Unpulled => 0,
+        Pull::Vddcap300k => 1,
+        Pull::WeakVp1 => 2,
+        Pull::PushPullVp1 => 3,
+        Pull::WeakVp2 => 4,
+        Pull::PushPullVp2 => 5,
+        Pull::WeakVp3 => 6,
+        Pull::PushPullVp3 => 7,
+        Pull::WeakVp4 => 8,
+        Pull::PushPullVp4 => 9,
+        Pull::WeakVddcap => 10,
+        Pull::PushPullVddcap => 11,
+    };
+    listed(
+        line,
+        b"none 300k weak-vp1 push-vp1 weak-vp2 push-vp2 weak-vp3 push-vp3 weak-vp4 push-vp4 weak-vddcap push-vddcap",
+        number,
+    )
+}
+
+// The word of this number in a list of words, after what stands in the line.
+fn listed(line: Line, words: &[u8], number: usize) -> Line {
+    let mut all = line;
+    let mut passed = 0;
+    let mut i = 0;
+    while i < words.len() {
+        if words[i] == b' ' {
+            passed += 1;
+        } else if passed == number {
+            all = all.word(&words[i..i + 1]);
+        }
+        i += 1;
     }
+    all
 }

@@ -6,7 +6,7 @@ use image::Logic;
 use image::Output;
 use records::OUT_OF_RANGE;
 use records::join;
-ghost use Prim.Native.Nat.{_<_};
+ghost use Prim.Native.Nat.{_<_, _+_, _*_};
 ghost use mathlib.Core.Path.{_≡_};
 ghost use Rattle.writing.specs.Writing.{encoded, refusedAt, flag, logicByte, pinLogicByte, outputByte};
 
@@ -21,33 +21,31 @@ pub(crate) fn encode(k: usize, group: Group) -> Encoded
     requires { ⌜ k < 10 ⌝ }
     ensures { λ r. ⌜ r ≡ encoded k group ⌝ }
 {
-    let over = group.over;
-    let under = group.under;
-    let output = group.output;
-    let input = group.input;
-    let faults = group.faults;
-    let logic = group.logic;
-    if over.hysteresis > 31 {
-        return refused(8 * k + 1);
+    if group.over.hysteresis > 31 {
+        return refused(k, 1);
     }
-    if under.hysteresis > 31 {
-        return refused(8 * k + 3);
+    if group.under.hysteresis > 31 {
+        return refused(k, 3);
     }
     let Code::Is(delay) = codes::time_code(group.delay) else {
-        return refused(8 * k + 4);
+        return refused(k, 4);
     };
+    let input = group.input;
     let Code::Is(five) = codes::input_code(k, input) else {
-        return refused(8 * k + 5);
+        return refused(k, 5);
     };
+    let logic = group.logic;
     let Code::Is(six) = logic_byte(k, logic) else {
-        return refused(8 * k + 6);
+        return refused(k, 6);
     };
+    let faults = group.faults;
+    let output = group.output;
     let four = join(delay, 2, codes::fault_code(faults));
     let bytes = [
-        over.level,
-        over.hysteresis,
-        under.level,
-        under.hysteresis,
+        group.over.level,
+        group.over.hysteresis,
+        group.under.level,
+        group.under.hysteresis,
         four,
         five,
         six,
@@ -66,13 +64,16 @@ fn accepted(bytes: [u8; 8]) -> Encoded
     }
 }
 
-fn refused(address: usize) -> Encoded
-    ensures { λ r. ⌜ r ≡ refusedAt address ⌝ }
+fn refused(k: usize, j: usize) -> Encoded
+    requires { ⌜ k < 10 ⌝ }
+    requires { ⌜ j < 8 ⌝ }
+    ensures { λ r. ⌜ r ≡ refusedAt (8 * k + j) ⌝ }
 {
+    let place = 8 * k + j;
     let bytes = [0u8; 8];
     Encoded {
         number: OUT_OF_RANGE,
-        place: address,
+        place,
         bytes,
     }
 }

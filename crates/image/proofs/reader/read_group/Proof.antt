@@ -35,17 +35,14 @@ shared-slice-read-read-output c = search needs
 read-output-requires : tie.Need-read-output-requires
 read-output-requires c κs = search needs
 
-shared-slice-read-field : tie.Need-shared-slice-read-field
-shared-slice-read-field c = search needs
+shared-slice-read-timing : tie.Need-shared-slice-read-timing
+shared-slice-read-timing c = search needs
 
 field-requires : tie.Need-field-requires
 field-requires c κs = search needs
 
 time-requires : tie.Need-time-requires
 time-requires c κs = rw (c .field .ensures) (bits-lt _ 2 3)
-
-shared-slice-read-field-2 : tie.Need-shared-slice-read-field-2
-shared-slice-read-field-2 c = search needs
 
 field-requires-2 : tie.Need-field-requires-2
 field-requires-2 c κs = search needs
@@ -63,7 +60,7 @@ returns : tie.Need-returns
 unfolding groupOf
 returns c =
     let faults = c .before .before in
-    let delay = faults .before .before .before in
+    let delay = faults .before .before in
     let output = delay .before .before .before in
     let logic = output .before .before in
     let under = logic .before .before in
@@ -84,10 +81,9 @@ read-group-spec =
     read-logic-requires
     shared-slice-read-read-output
     read-output-requires
-    shared-slice-read-field
+    shared-slice-read-timing
     field-requires
     time-requires
-    shared-slice-read-field-2
     field-requires-2
     fault-type-requires
     shared-slice-read-input

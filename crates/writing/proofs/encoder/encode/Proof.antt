@@ -6,23 +6,11 @@ use Rattle.writing.proofs.WritingLaws.{over-refused, under-refused, del
 use Rattle.writing.proofs.encoder.encode.Statement.{statement}
 use Rattle.writing.proofs.encoder.encode.Tie as tie
 
-mul-refused : tie.Need-mul-refused
-mul-refused c = search needs
-
-add-refused : tie.Need-add-refused
-add-refused c = search needs
-
 refused-requires : tie.Need-refused-requires
 refused-requires c κs = search needs
 
 returns : tie.Need-returns
 returns c = c .refused .ensures ∙ over-refused _ _ (c .before .if1 .taken)
-
-mul-refused-2 : tie.Need-mul-refused-2
-mul-refused-2 c = search needs
-
-add-refused-2 : tie.Need-add-refused-2
-add-refused-2 c = search needs
 
 refused-requires-2 : tie.Need-refused-requires-2
 refused-requires-2 c κs = search needs
@@ -40,12 +28,6 @@ enum-known-delay c = search needs
 
 enum-told : tie.Need-enum-told
 enum-told c = search needs
-
-mul-refused-3 : tie.Need-mul-refused-3
-mul-refused-3 c = search needs
-
-add-refused-3 : tie.Need-add-refused-3
-add-refused-3 c = search needs
 
 refused-requires-3 : tie.Need-refused-requires-3
 refused-requires-3 c κs = search needs
@@ -65,12 +47,6 @@ enum-known-five c = search needs
 
 enum-told-2 : tie.Need-enum-told-2
 enum-told-2 c = search needs
-
-mul-refused-4 : tie.Need-mul-refused-4
-mul-refused-4 c = search needs
-
-add-refused-4 : tie.Need-add-refused-4
-add-refused-4 c = search needs
 
 refused-requires-4 : tie.Need-refused-requires-4
 refused-requires-4 c κs = search needs
@@ -93,18 +69,12 @@ enum-known-six c = search needs
 enum-told-3 : tie.Need-enum-told-3
 enum-told-3 c = search needs
 
-mul-refused-5 : tie.Need-mul-refused-5
-mul-refused-5 c = search needs
-
-add-refused-5 : tie.Need-add-refused-5
-add-refused-5 c = search needs
-
 refused-requires-5 : tie.Need-refused-requires-5
 refused-requires-5 c κs = search needs
 
 returns-5 : tie.Need-returns-5
 returns-5 c =
-    let five = c .before .before .before .before .before in
+    let five = c .before .before .before .before .before .before in
     let delay = five .before .before .before .before in
     let under = delay .before .before .before in
     let over = under .before .before in
@@ -127,8 +97,8 @@ accepted-requires c κs = search needs
 
 returns-6 : tie.Need-returns-6
 returns-6 c =
-    let six = c .before .before .before .before .before in
-    let five = six .before .before .before .before in
+    let six = c .before .before .before .before .before .before in
+    let five = six .before .before .before .before .before in
     let delay = five .before .before .before .before in
     let under = delay .before .before .before in
     let over = under .before .before in
@@ -143,33 +113,23 @@ pub encode-spec : {M : Type 1} → statement M
 encode-spec =
     tie.close
     (tie.spec
-    mul-refused
-    add-refused
     refused-requires
     returns
-    mul-refused-2
-    add-refused-2
     refused-requires-2
     returns-2
     time-code-requires
     enum-known-delay
     enum-told
-    mul-refused-3
-    add-refused-3
     refused-requires-3
     returns-3
     input-code-requires
     enum-known-five
     enum-told-2
-    mul-refused-4
-    add-refused-4
     refused-requires-4
     returns-4
     logic-byte-requires
     enum-known-six
     enum-told-3
-    mul-refused-5
-    add-refused-5
     refused-requires-5
     returns-5
     fault-code-requires
