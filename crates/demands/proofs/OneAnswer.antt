@@ -4,11 +4,12 @@ use mathlib.Core.Path.{_≡_, sym, _∙_}
 use mathlib.Core.Bool.{Bool}
 use mathlib.Core.List.{List, _∷_}
 use lib.ListN.{length, getD}
+use Rattle.records.specs.Lists.{copied}
 use Rattle.records.specs.Bits.{bits, joined}
 use Rattle.records.specs.Words.{wordAt, bitWord}
 use Rattle.records.specs.Verdicts.{refusedUnless, orElse}
 use Rattle.records.specs.declared.verdict.Verdict.{Verdict}
-use Rattle.text.specs.Text.{emptyLine, appended, written as lineText, decimalText, hexText, bytesText}
+use Rattle.text.specs.Text.{emptyLine, appended, written as lineText, decimalText, hexText}
 use Rattle.text.specs.declared.Line.{Line}
 use Rattle.console.specs.Refusal.{refusalLine}
 use Rattle.image.specs.Reading.{reading}
@@ -26,7 +27,8 @@ use Rattle.machine.specs.Machine.{startState, after}
 use Rattle.machine.specs.declared.node.Node.{Node}
 use Rattle.machine.specs.declared.state.State.{State}
 use Rattle.tables.specs.Tables.{cellAt, partVerdict, cellWritten, cellVerdict, tableVerdict}
-use Rattle.steps.specs.Steps.{stepAt, stepCount}
+use Rattle.steps.specs.Steps.{stepAt, stepCount, stepFault}
+use Rattle.steps.specs.declared.step.Step.{Step}
 use Rattle.sheets.specs.Sheets.{nodeAt, sheetVerdict}
 use Rattle.engine.specs.Engine.{tableTicked, tableShown, sheetTicked, sheetShown}
 use Rattle.translator.specs.Translation.{translation, translated}
@@ -72,13 +74,16 @@ engine-tick settings bank frames = one-answer (engineTicked settings bank frames
 pub pins : (settings : Settings) (outputs : ℕ) → OneAnswer (driven settings outputs)
 pins settings outputs = one-answer (driven settings outputs)
 
--- ---- sheets and tables
+-- ---- steps, sheets and tables
 
 pub sheet-verdict : (sheet : List ℕ) → OneAnswer (sheetVerdict sheet)
 sheet-verdict sheet = one-answer (sheetVerdict sheet)
 
 pub step-at : (sheet : List ℕ) (k : ℕ) → OneAnswer (stepAt sheet k)
 step-at sheet k = one-answer (stepAt sheet k)
+
+pub step-fault : (step : Step) → OneAnswer (stepFault step)
+step-fault step = one-answer (stepFault step)
 
 pub step-count : (sheet : List ℕ) → OneAnswer (stepCount sheet)
 step-count sheet = one-answer (stepCount sheet)
@@ -171,6 +176,10 @@ byte-at bytes at = one-answer (getD bytes at 0)
 pub bit : (on : Bool) (k : ℕ) → OneAnswer (bitWord on k)
 bit on k = one-answer (bitWord on k)
 
+-- the part
+pub copy : (bytes part : List ℕ) → OneAnswer (copied bytes part)
+copy bytes part = one-answer (copied bytes part)
+
 -- ---- text and console
 
 pub empty : OneAnswer emptyLine
@@ -191,9 +200,6 @@ item line number = one-answer (appended line (32 ∷ decimalText number))
 
 pub hex : (line : Line) (number width : ℕ) → OneAnswer (appended line (hexText width number))
 hex line number width = one-answer (appended line (hexText width number))
-
-pub bytes : (line : Line) (part : List ℕ) → OneAnswer (appended line (bytesText part))
-bytes line part = one-answer (appended line (bytesText part))
 
 pub refusal : (part : List ℕ) (number place : ℕ) → OneAnswer (refusalLine part number place)
 refusal part number place = one-answer (refusalLine part number place)

@@ -46,7 +46,17 @@ fn group_line(k: usize, group: Group, normal: &[u8]) -> Line {
     let mut line = names::channel(text::empty(), k);
     line = fault_items(limit_items(line, group), group);
     line = output_names(logic_items(line, logic), output);
-    line.word(b" normal ").bytes(normal).word(b"\n")
+    normal_bytes(line.word(b" normal "), normal).word(b"\n")
+}
+
+fn normal_bytes(line: Line, normal: &[u8]) -> Line {
+    let mut all = line;
+    let mut j = 0;
+    while j < normal.len() {
+        all = all.hex(normal[j] as u64, 2);
+        j += 1;
+    }
+    all
 }
 
 fn limit_items(line: Line, group: Group) -> Line {

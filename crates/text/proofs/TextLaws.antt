@@ -13,7 +13,7 @@ use mir.Val.{Val}
 use denote.Laws.{Is as Owned}
 use denote.Struct.Declared.{row}
 use Rattle.io.specs.Digits.{digits, Fewest}
-use Rattle.text.specs.Text.{emptyLine, written, rewritten, appended, places, numeral, decimalText, hexText, bytesText}
+use Rattle.text.specs.Text.{emptyLine, written, rewritten, appended, places, numeral, decimalText, hexText}
 use Rattle.text.specs.declared.Line.{Line}
 use Rattle.text.proofs.Line.{the-type}
 
@@ -163,32 +163,7 @@ pub hex-fewest : (width n k : ℕ) → n < 2 ^ 64 → Fewest 16 (min (max width 
 unfolding hexText
 hex-fewest width n k holds fewest = numeral-fewest 16 (min (max width 1) 16) 16 n k (omega arith) (min-le-right _ _) holds fewest
 
--- ---- bytes
-pub byte-text : (b : ℕ) → b < 256 → hexText 2 b ≡ digits 16 2 b
-byte-text b h = sym (hex-fewest 2 b 2 (omega arith) (omega arith, h, λ p. absurd (not-two p)))
-  where
-    not-two : 2 < 2 → ⊥
-    not-two p = omega arith
-
-pub bytes-append : (s t : List ℕ) → bytesText (s ++ t) ≡ bytesText s ++ bytesText t
-unfolding bytesText
-bytes-append [] t = refl
-bytes-append (b ∷ s) t =
-    ap (λ (l : List ℕ). digits 16 2 b ++ l) (bytes-append s t) ∙ sym (append-assoc (digits 16 2 b) (bytesText s) (bytesText t))
-
--- one byte more
-pub bytes-more : (part : List ℕ) (i : ℕ) → i < length part → bytesText (take (i + 1) part) ≡ bytesText (take i part) ++ digits 16 2 (getD part i 0)
-unfolding bytesText
-bytes-more part i h =
-    ap (λ (n : ℕ). bytesText (take n part)) (add-one i)
-    ∙ ap bytesText (take-suc part i 0 h)
-    ∙ bytes-append (take i part) (getD part i 0 ∷ [])
-
--- ---- one answer, and a few texts in full
--- two lines that one promise allows are equal
-pub one-line : {first second line : Line} → first ≡ line → second ≡ line → first ≡ second
-one-line p q = p ∙ sym q
-
+-- ---- a few texts in full
 -- "0", "207" and the greatest number of 64 bits, which has twenty digits
 pub decimal-zero : decimalText 0 ≡ 48 ∷ []
 unfolding decimalText numeral places
@@ -210,11 +185,6 @@ hex-padded = refl
 pub hex-narrow : hexText 0 0xaf ≡ 97 ∷ 102 ∷ []
 unfolding hexText numeral places
 hex-narrow = refl
-
--- "00ff"
-pub bytes-two : bytesText (0 ∷ 255 ∷ []) ≡ 48 ∷ 48 ∷ 102 ∷ 102 ∷ []
-unfolding bytesText
-bytes-two = refl
 
 -- "refused 7" in a line
 pub line-in-full : written (appended (appended emptyLine (114 ∷ 101 ∷ 102 ∷ 117 ∷ 115 ∷ 101 ∷ 100 ∷ [])) (32 ∷ decimalText 7))

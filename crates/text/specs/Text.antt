@@ -40,8 +40,3 @@ decimalText n = numeral 10 1 20 n
 -- a number of 64 bits in hexadecimal, in lower case, with zeros in front up to `width` digits, of which it has 1 to 16
 unfoldable pub hexText : ℕ → ℕ → List ℕ
 hexText width n = numeral 16 (min (max width 1) 16) 16 n
-
--- two hexadecimal digits for each byte
-unfoldable pub bytesText : List ℕ → List ℕ
-bytesText [] = []
-bytesText (b ∷ bytes) = digits 16 2 b ++ bytesText bytes

@@ -7,7 +7,7 @@ ghost use mathlib.Core.List.{_∷_};
 ghost use mathlib.Core.Path.{_≡_};
 ghost use lib.ListN.{length};
 ghost use Rattle.io.specs.Counts.{Counts};
-ghost use Rattle.text.specs.Text.{emptyLine, appended, written, decimalText, hexText, bytesText};
+ghost use Rattle.text.specs.Text.{emptyLine, appended, written, decimalText, hexText};
 
 // The first `length` bytes, and all of them where that is more, stand in the line.
 pub struct Line {
@@ -75,30 +75,10 @@ impl Line {
         let count = io::hex(number, width, &mut digits);
         self.word(&digits[..count])
     }
-
-    // Two hexadecimal digits for each byte.
-    pub fn bytes(self, part: &[u8]) -> Line
-        ensures { λ r. ⌜ r ≡ appended self (bytesText (now (part .entry))) ⌝ }
-    {
-        // No text: a length above 256 becomes 256, also where there is no byte to add.
-        let mut line = self.word(b"");
-        let mut i = 0;
-        while i < part.len() {
-            line = line.hex(wide(part[i]), 2);
-            i += 1;
-        }
-        line
-    }
 }
 
 fn least(a: usize, b: usize) -> usize
     ensures { λ r. ⌜ r ≡ min a b ⌝ }
 {
     if a < b { a } else { b }
-}
-
-fn wide(byte: u8) -> u64
-    ensures { λ r. ⌜ r ≡ byte ⌝ }
-{
-    byte as u64
 }

@@ -72,9 +72,5 @@ fn write_group(bytes: [u8; 8], part: &mut [u8])
     requires { ⌜ length (now part) ≡ 8 ⌝ }
     ensures { λ _. ⌜ now (part .exit) ≡ bytes ⌝ }
 {
-    let mut j = 0;
-    while j < 8 {
-        part[j] = bytes[j];
-        j += 1;
-    }
+    records::copy(&bytes, part);
 }
