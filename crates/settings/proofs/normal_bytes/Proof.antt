@@ -14,8 +14,8 @@ abbrev μ-loop : tie.MeasureT-loop
 loop-holds : tie.Need-loop-holds Inv-loop μ-loop
 loop-holds c = search needs
 
-shared-slice-read-hex : tie.Need-shared-slice-read-hex Inv-loop μ-loop
-shared-slice-read-hex c = search needs
+byte-at-requires : tie.Need-byte-at-requires Inv-loop μ-loop
+byte-at-requires c κs = search needs
 
 cast-hex : tie.Need-cast-hex Inv-loop μ-loop
 cast-hex c = search needs
@@ -42,7 +42,7 @@ normal-bytes-spec =
     Inv-loop
     μ-loop
     loop-holds
-    shared-slice-read-hex
+    byte-at-requires
     cast-hex
     hex-requires
     add-j
