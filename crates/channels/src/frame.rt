@@ -1,9 +1,9 @@
 // What a channel's pins hold in a frame: ten samples by channel, then the logic levels. A byte past
 // the end of the frames counts as 0.
 use crate::channel::Sample;
+use bit_fields::field;
 use image::Input;
-use records::byte_at;
-use records::field;
+use words::byte_at;
 ghost use Prim.Native.Nat.{_-_};
 ghost use mathlib.Core.Path.{_≡_};
 ghost use lib.ListN.{getD};

@@ -15,7 +15,8 @@ use Rattle.console.specs.Refusal.{refusalLine}
 use Rattle.image.specs.Reading.{reading}
 use Rattle.image.specs.declared.settings.Group.{Group}
 use Rattle.image.specs.declared.settings.Settings.{Settings}
-use Rattle.writing.specs.Writing.{settingsVerdict, writeVerdict, written, blankImage}
+use Rattle.writing.specs.Writing.{settingsVerdict, writeVerdict, written}
+use Rattle.blank_image.specs.Blank.{blankImage}
 use Rattle.channels.specs.Run.{ranOver}
 use Rattle.channels.specs.declared.channel.Channel.{Channel}
 use Rattle.detectors.specs.Bank.{startBank}

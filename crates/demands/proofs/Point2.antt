@@ -1,6 +1,6 @@
 -- The second point, the image: it is read as AN-698 prints it, written by the same tables, and the two undo each other.
 -- `reading` is what `image::read` answers, `writeVerdict` what `writing::write` answers and `written` what it leaves in the buffer,
--- `settingsVerdict` what `writing::settings_verdict` answers and `blankImage` what `writing::blank` hands out. Assumes nothing.
+-- `settingsVerdict` what `writing::settings_verdict` answers and `blankImage` what `blank_image::blank` hands out. Assumes nothing.
 use Prim.Native.Nat.{ℕ, _≤_, _<_}
 use mathlib.Core.Path.{_≡_}
 use mathlib.Core.Bool.{true, false}
@@ -10,7 +10,8 @@ use lib.ListN.{length, getD}
 use Rattle.records.specs.Numbers.{wrong-length, reserved, unprinted, out-of-range}
 use Rattle.records.specs.Verdicts.{accepted}
 use Rattle.image.specs.Reading.{imageVerdict, settingsOf, zeroSettings, reading}
-use Rattle.writing.specs.Writing.{settingsVerdict, writeVerdict, imageOf, written, blankImage}
+use Rattle.writing.specs.Writing.{settingsVerdict, writeVerdict, imageOf, written}
+use Rattle.blank_image.specs.Blank.{blankImage}
 use Rattle.image.specs.Normal.{normal}
 use Rattle.image.specs.declared.settings.Settings.{Settings}
 use Rattle.records.proofs.Every.{Bytes}

@@ -115,10 +115,10 @@ pub(crate) fn input(k: usize, byte: u8) -> Input
     ensures { λ r. ⌜ r ≡ inputOf k byte ⌝ }
 {
     if k < 4 {
-        return RANGES[records::field(byte, 0, 2) as usize];
+        return RANGES[bit_fields::field(byte, 0, 2) as usize];
     }
     if k == 4 {
-        return HIGH_RANGES[records::field(byte, 0, 1) as usize];
+        return HIGH_RANGES[bit_fields::field(byte, 0, 1) as usize];
     }
-    FUNCTIONS[records::field(byte, 0, 2) as usize]
+    FUNCTIONS[bit_fields::field(byte, 0, 2) as usize]
 }

@@ -9,7 +9,7 @@ use Rattle.records.specs.Lists.{each}
 use Rattle.records.specs.Verdicts.{accepted, orElse, firstRefusal}
 use Rattle.image.specs.Groups.{isVP}
 use Rattle.image.specs.Reading.{reservedFrom, usable, printed, byteVerdict, imageVerdict, outputOf}
-use Rattle.writing.specs.Writing.{blankImage}
+use Rattle.blank_image.specs.Blank.{blankImage}
 use Rattle.image.specs.Normal.{normalByte, rangeTwice, pullTwice}
 
 -- ---- the blank image

@@ -1,6 +1,6 @@
 // Which exit a tick takes.
 use crate::node::Node;
-use records::word_bit;
+use bit_fields::word_bit;
 ghost use mathlib.Core.Path.{_≡_};
 ghost use Rattle.machine.specs.Machine.{exitOf, met as Machine·met, due as Machine·due};
 

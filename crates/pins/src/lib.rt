@@ -1,11 +1,11 @@
 // The pin drives: which of PDO1 to PDO10 are driven high, from settings and the outputs.
+use bit_fields::word_bit;
 use image::Settings;
 use image::Source;
 use records::BAD_WORD;
-use records::bit;
 use records::or_else;
 use records::refuse_unless;
-use records::word_bit;
+use words::bit;
 ghost use mathlib.Core.Path.{_≡_};
 ghost use Rattle.pins.specs.Pins.{driven, pinsOf};
 ghost use Rattle.pins.specs.Pins.{drive as Pins·drive};

@@ -55,7 +55,7 @@ fn receive_sheet(sheet: &mut [u8]) -> usize
     if received.count < 2 {
         return 0;
     }
-    let length = least(records::word_at(&announced, 0) as usize, sheet.len());
+    let length = least(words::word_at(&announced, 0) as usize, sheet.len());
     let received = console::receive(&mut sheet[..length]);
     if received.count < length {
         return 0;

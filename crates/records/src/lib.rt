@@ -1,22 +1,12 @@
-// What every other crate stands on: the paper's numbers, verdicts, bit fields of a byte, words of two
-// bytes, and copies of bytes.
+// What every other crate stands on: the paper's numbers and verdicts, and the definitions and laws of bits,
+// words, lists and tags.
 //
 // Every function is total: its definition in specs/ gives a value for every argument of its type.
-mod bits;
-mod copying;
 mod verdict;
-mod word;
 
-pub use bits::field;
-pub use bits::join;
-pub use bits::word_bit;
-pub use copying::copy;
 pub use verdict::Verdict;
 pub use verdict::or_else;
 pub use verdict::refuse_unless;
-pub use word::bit;
-pub use word::byte_at;
-pub use word::word_at;
 
 // "Numbers given back", as specs/Numbers.antt names them.
 pub const ACCEPTED: u8 = 0;

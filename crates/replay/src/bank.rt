@@ -3,8 +3,8 @@ use crate::parts::is_flag;
 use channels::Channel;
 use channels::Filter;
 use detectors::Bank;
-use records::byte_at;
-use records::word_at;
+use words::byte_at;
+use words::word_at;
 ghost use Prim.Native.Nat.{_≤_};
 
 // From the bytes from 160 on, after settings.

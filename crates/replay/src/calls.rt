@@ -8,7 +8,7 @@ use crate::settings::is_settings;
 use crate::settings::settings_from;
 use detectors::Detected;
 use image::Settings;
-use records::word_at;
+use words::word_at;
 ghost use Prim.Native.Nat.{_≤_};
 
 // Whether the call of a kind answers what is expected. A kind that is not known is not alike.
@@ -88,7 +88,7 @@ fn is_started(expected: &[u8]) -> bool {
     if expected.len() != 183 {
         return false;
     }
-    let blank = writing::blank();
+    let blank = blank_image::blank();
     ends_with(&blank, &expected[0..80], 0)
         & is_bank(detectors::start(), expected, 80)
         & machine_calls::is_state(engine::start(), expected, 180)

@@ -3,8 +3,8 @@ use crate::parts::ends_with;
 use crate::parts::is_verdict;
 use engine::Ticked;
 use machine::State;
-use records::byte_at;
-use records::word_at;
+use words::byte_at;
+use words::word_at;
 ghost use Prim.Native.Nat.{_≤_};
 
 pub(crate) fn is_translated(sheet: &[u8], lent: &mut [u8], expected: &[u8]) -> bool {

@@ -8,8 +8,8 @@ mod parts;
 mod settings;
 
 use console::print;
-use records::word_at;
 use text::Line;
+use words::word_at;
 ghost use Prim.Native.Nat.{_≤_};
 
 const LONGEST: usize = 4096;

@@ -1,6 +1,6 @@
 // Parts of a case: received whole, and compared.
-use records::byte_at;
-use records::word_at;
+use words::byte_at;
+use words::word_at;
 ghost use Prim.Native.Nat.{_≤_};
 
 // Whether as many bytes came.

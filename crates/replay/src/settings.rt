@@ -9,8 +9,8 @@ use image::Pull;
 use image::Settings;
 use image::Source;
 use image::Threshold;
-use records::byte_at;
-use records::word_at;
+use words::byte_at;
+use words::word_at;
 ghost use Prim.Native.Nat.{_≤_};
 
 const FAULT_TYPES: [FaultType; 4] = [

@@ -53,7 +53,7 @@ fn normal_bytes(line: Line, normal: &[u8]) -> Line {
     let mut all = line;
     let mut j = 0;
     while j < normal.len() {
-        all = all.hex(records::byte_at(normal, j) as u64, 2);
+        all = all.hex(words::byte_at(normal, j) as u64, 2);
         j += 1;
     }
     all

@@ -2,8 +2,8 @@
 use records::REPEATED_TAG;
 use records::Verdict;
 use records::refuse_unless;
-use records::word_at;
 use steps::step_count;
+use words::word_at;
 ghost use Prim.Native.Nat.{_≤_, _<_, _*_};
 ghost use mathlib.Core.Path.{_≡_};
 ghost use Rattle.records.specs.Tags.{tagAt, lookUp};

@@ -1,7 +1,7 @@
 // A step's bytes: tag (2), outputs (2), monitor mask (2), fault jump (2), sequence channel, level,
 // sequence jump (2), timeout (2), timeout jump (2).
-use records::byte_at;
-use records::word_at;
+use words::byte_at;
+use words::word_at;
 ghost use mathlib.Core.Path.{_≡_};
 ghost use Rattle.steps.specs.Steps.{stepAt, stepCount};
 

@@ -3,10 +3,10 @@
 use machine::Node;
 use records::Verdict;
 use records::WRONG_LENGTH;
-use records::byte_at;
-use records::copy;
 use records::refuse_unless;
-use records::word_at;
+use words::byte_at;
+use words::copy;
+use words::word_at;
 ghost use mathlib.Core.Path.{_≡_};
 ghost use Rattle.tables.specs.Tables.{cellAt, cellBytes, cellWritten, partVerdict};
 

@@ -1,5 +1,5 @@
 // How many cells a step takes, and where they begin: sums over the steps before, computed.
-use records::word_at;
+use words::word_at;
 ghost use Prim.Native.Nat.{_≤_};
 ghost use mathlib.Core.Path.{_≡_};
 ghost use Rattle.steps.specs.Steps.{stepAt};

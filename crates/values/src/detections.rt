@@ -41,7 +41,7 @@ fn try_write(name: &[u8], hysteresis: u8, buffer: &mut [u8]) {
 
 // The settings of the blank image, but that the engine drives PDO1, and a hysteresis on VP1.
 fn driving(hysteresis: u8) -> Settings {
-    let mut image = writing::blank();
+    let mut image = blank_image::blank();
     image[7] = 0x10;
     let reading = image::read(&image);
     let mut settings = reading.settings;

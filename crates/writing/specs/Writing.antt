@@ -99,10 +99,6 @@ imageOf settings = each (λ address. codeValue (settingByte settings address)) 0
 unfoldable pub written : Settings → List ℕ → List ℕ
 written settings buffer = cond (eqb (writeVerdict settings buffer .number) 0) (imageOf settings) buffer
 
--- "The blank image is eighty zero bytes"
-unfoldable pub blankImage : List ℕ
-blankImage = replicate 80 0
-
 -- ---- one group, as the encoder answers it
 
 -- the tests of the eight bytes, lowest address first

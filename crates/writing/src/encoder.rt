@@ -1,11 +1,11 @@
 // The eight bytes that mean one group's settings, by value: everything that can refuse.
 use crate::codes;
+use bit_fields::join;
 use image::Code;
 use image::Group;
 use image::Logic;
 use image::Output;
 use records::OUT_OF_RANGE;
-use records::join;
 ghost use Prim.Native.Nat.{_<_, _+_, _*_};
 ghost use mathlib.Core.Path.{_≡_};
 ghost use Rattle.writing.specs.Writing.{encoded, refusedAt, flag, logicByte, pinLogicByte, outputByte};

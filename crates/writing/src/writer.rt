@@ -7,14 +7,7 @@ use records::WRONG_LENGTH;
 use records::refuse_unless;
 ghost use mathlib.Core.Path.{_≡_};
 ghost use lib.ListN.{length};
-ghost use Rattle.writing.specs.Writing.{settingsVerdict, writeVerdict, imageOf, written, blankImage};
-
-// The blank image: eighty zero bytes.
-pub fn blank() -> [u8; 80]
-    ensures { λ r. ⌜ r ≡ blankImage ⌝ }
-{
-    [0; 80]
-}
+ghost use Rattle.writing.specs.Writing.{settingsVerdict, writeVerdict, imageOf, written};
 
 // Number 0 where some image means the settings; else 4 at the lowest address whose setting no byte
 // of its group can mean.
@@ -72,5 +65,5 @@ fn write_group(bytes: [u8; 8], part: &mut [u8])
     requires { ⌜ length (now part) ≡ 8 ⌝ }
     ensures { λ _. ⌜ now (part .exit) ≡ bytes ⌝ }
 {
-    records::copy(&bytes, part);
+    words::copy(&bytes, part);
 }
