@@ -5,11 +5,11 @@
 mod packing;
 mod recording;
 
-use image::read;
 use machine::State;
 use packing::packed;
 use packing::packed_tick;
 use packing::packed_words;
+use reading::read;
 use records::WRONG_LENGTH;
 ghost use mathlib.Core.Path.{_≡_};
 ghost use Rattle.engine.specs.Engine.{tableTicked, sheetTicked};

@@ -1,5 +1,5 @@
 -- The path: from an image and samples, by the detectors and the engine, to the pins; what the three points are for, and no paper asks for it.
--- `reading` is what `image::read` answers, `engineTicked` what `detectors::engine_tick` answers and `driven` what `pins::pins` answers; `sheetRun` and `tableRun` are
+-- `reading` is what `reading::read` answers, `engineTicked` what `detectors::engine_tick` answers and `driven` what `pins::pins` answers; `sheetRun` and `tableRun` are
 -- what the engine's calls answer. Assumes nothing.
 use Prim.Native.Nat.{ℕ, suc, _+_, _<_}
 use mathlib.Core.Path.{_≡_, refl, ap, _∙_}

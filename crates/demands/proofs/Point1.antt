@@ -25,7 +25,7 @@ use Rattle.demands.proofs.RecordingLaws.{Wordless, recorded-wordless}
 use Rattle.image_laws.proofs.Refusals as images
 use Rattle.detector_laws.proofs.Refusals as detectors
 
--- image::read
+-- reading::read
 pub read-refused : (image : List ℕ) → ¬ (imageVerdict image .number ≡ 0)
     → reading image ≡ record { number = imageVerdict image .number; place = imageVerdict image .place; settings = zeroSettings }
 read-refused = images.reading-refused

@@ -1,5 +1,5 @@
 -- The second point, the image: it is read as AN-698 prints it, written by the same tables, and the two undo each other.
--- `reading` is what `image::read` answers, `writeVerdict` what `writing::write` answers and `written` what it leaves in the buffer,
+-- `reading` is what `reading::read` answers, `writeVerdict` what `writing::write` answers and `written` what it leaves in the buffer,
 -- `settingsVerdict` what `writing::settings_verdict` answers and `blankImage` what `blank_image::blank` hands out. Assumes nothing.
 use Prim.Native.Nat.{ℕ, _≤_, _<_}
 use mathlib.Core.Path.{_≡_}

@@ -1,8 +1,5 @@
-// The configuration image: its settings, and eighty bytes read into them by the tables of source 004
-// as the paper gives them. `writing` has the way back.
-//
-// `read` is the call. It has no `requires`, and its promise gives the whole answer by a definition of
-// specs/.
+// The configuration image: its settings, the codes that have a table of their own, and, in specs/, what
+// eighty bytes mean. `reading` has the reader, and `writing` the way back.
 mod codes;
 mod reader;
 mod settings;
@@ -11,7 +8,6 @@ pub use codes::Code;
 pub use codes::PULSES;
 pub use codes::TIMES;
 pub use reader::Reading;
-pub use reader::read;
 pub use settings::FaultType;
 pub use settings::Group;
 pub use settings::Input;

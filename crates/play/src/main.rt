@@ -23,7 +23,7 @@ fn main() {
     // A read that failed counts no byte, and the reader refuses that.
     let mut bytes = [0u8; 80];
     let received = console::receive(&mut bytes);
-    let reading = image::read(&bytes[..received.count]);
+    let reading = reading::read(&bytes[..received.count]);
     if reading.number != 0 {
         print(refusal(b" image", reading.number, reading.place));
         return;

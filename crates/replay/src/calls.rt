@@ -35,7 +35,7 @@ pub(crate) fn is_alike(kind: u8, given: &[u8], lent: &mut [u8], expected: &[u8])
 }
 
 fn is_read(image: &[u8], lent: &mut [u8], expected: &[u8]) -> bool {
-    let reading = image::read(image);
+    let reading = reading::read(image);
     let settings = reading.settings;
     is_verdict(reading.number, reading.place, expected, 0)
         & is_settings(settings, expected, 3)

@@ -19,7 +19,7 @@ fn main() {
     // One byte more than an image, so that a longer input is refused and not cut.
     let mut buffer = [0u8; 81];
     let received = console::receive(&mut buffer);
-    let reading = image::read(&buffer[..received.count]);
+    let reading = reading::read(&buffer[..received.count]);
     if reading.number != 0 {
         print(console::refusal(b"", reading.number, reading.place));
         return;

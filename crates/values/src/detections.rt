@@ -20,7 +20,7 @@ fn try_read(name: &[u8], one: u8, seven: u8, length: usize) {
     image[1] = one;
     image[7] = seven;
     if length <= 80 {
-        let reading = image::read(&image[0..length]);
+        let reading = reading::read(&image[0..length]);
         print_verdict(name, reading.number, reading.place);
     }
 }
@@ -43,7 +43,7 @@ fn try_write(name: &[u8], hysteresis: u8, buffer: &mut [u8]) {
 fn driving(hysteresis: u8) -> Settings {
     let mut image = blank_image::blank();
     image[7] = 0x10;
-    let reading = image::read(&image);
+    let reading = reading::read(&image);
     let mut settings = reading.settings;
     settings.groups[0].over.hysteresis = hysteresis;
     settings
