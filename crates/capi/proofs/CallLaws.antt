@@ -22,40 +22,52 @@ use Rattle.image_laws.proofs.RoundTrip.{read-then-write}
 use Rattle.detectors.specs.Bank.{startBank}
 use Rattle.detectors.specs.Tick.{engineTicked}
 use Rattle.detectors.specs.declared.ticks.Detected.{Detected}
-use Rattle.capi.specs.Calls.{normalVerdict, normalWritten, detectedAfter, recordingVerdict, recorded}
+use Rattle.capi.specs.Calls.{imageThen, normalVerdict, normalWritten, detectedAfter, recordingVerdict, recorded}
+
+-- ---- the image's tests, then another length
+
+module _ (image : List ℕ) where
+  then-image : (right : Bool) → ¬ (imageVerdict image .number ≡ 0) → imageThen image right ≡ imageVerdict image
+  unfolding imageThen
+  then-image right bad = first-cons _ _ ∙ orElse-hit _ _ bad
+
+  module _ (good : imageVerdict image .number ≡ 0) where
+    by-length : (right : Bool) → imageThen image right ≡ refusedUnless right wrong-length 0
+    unfolding imageThen
+    by-length right = first-cons _ _ ∙ orElse-pass _ _ good ∙ first-last right wrong-length 0 (λ none. omega arith)
+
+    then-right : (a b : ℕ) → a ≡ b → imageThen image (eqb a b) ≡ accepted
+    then-right a b same = by-length (eqb a b) ∙ ap (λ (right : Bool). refusedUnless right wrong-length 0) (eq-eqb a b same)
+
+    then-wrong : (a b : ℕ) → ¬ (a ≡ b) → imageThen image (eqb a b) ≡ record { number = wrong-length; place = 0 }
+    then-wrong a b other = by-length (eqb a b) ∙ ap (λ (right : Bool). refusedUnless right wrong-length 0) (ne-eqb a b other)
 
 -- ---- normal bytes
 
 module _ (image buffer : List ℕ) where
   pub normal-refused : ¬ (imageVerdict image .number ≡ 0) → normalVerdict image buffer ≡ imageVerdict image
   unfolding normalVerdict
-  normal-refused bad = first-cons _ _ ∙ orElse-hit _ _ bad
+  normal-refused = then-image image (eqb (length buffer) 80)
 
   pub normal-kept : ¬ (normalVerdict image buffer .number ≡ 0) → normalWritten image buffer ≡ buffer
   unfolding normalWritten
   normal-kept bad = rw (ne-eqb (normalVerdict image buffer .number) 0 bad)
 
   module _ (bytes : Bytes image) (good : imageVerdict image .number ≡ 0) where
-    -- the buffer's length decides
-    normal-by-length : normalVerdict image buffer ≡ refusedUnless (eqb (length buffer) 80) wrong-length 0
-    unfolding normalVerdict
-    normal-by-length = first-cons _ _ ∙ orElse-pass _ _ good ∙ first-last (eqb (length buffer) 80) wrong-length 0 (λ none. omega arith)
-
     -- what the writer answers and leaves
     pub normal-taken : (normalVerdict image buffer ≡ writeVerdict (reading image .settings) buffer)
         × (normalWritten image buffer ≡ written (reading image .settings) buffer)
-    unfolding normalWritten
+    unfolding normalWritten normalVerdict
     normal-taken =
         elim (ℕ-discrete (length buffer) 80) [
           | yes eighty ↦
               let taken = read-then-write image bytes good buffer eighty in
-              let passes : normalVerdict image buffer ≡ accepted = normal-by-length ∙ ap (λ (holds : Bool). refusedUnless holds wrong-length 0) (eq-eqb _ _ eighty) in
+              let passes : normalVerdict image buffer ≡ accepted = then-right image good (length buffer) 80 eighty in
               (passes ∙ sym (taken .0), rw (eq-eqb (normalVerdict image buffer .number) 0 (ap numberOf passes)) (sym (taken .1)))
           | no other ↦
               let settings = reading image .settings in
               let wrong = write-wrong-length settings buffer other in
-              let shows : normalVerdict image buffer ≡ writeVerdict settings buffer =
-              normal-by-length ∙ ap (λ (holds : Bool). refusedUnless holds wrong-length 0) (ne-eqb _ _ other) ∙ sym wrong in
+              let shows : normalVerdict image buffer ≡ writeVerdict settings buffer = then-wrong image good (length buffer) 80 other ∙ sym wrong in
               let refused : ¬ (writeVerdict settings buffer .number ≡ 0) = λ zero. omega (arith, sym (ap numberOf wrong) ∙ zero) in
               (shows, normal-kept (λ zero. refused (sym (ap numberOf shows) ∙ zero)) ∙ sym (written-refused settings buffer refused))
         ]
@@ -105,24 +117,18 @@ module _ (image recording : List ℕ) where
       → recorded image recording
       ≡ record { number = imageVerdict image .number; place = imageVerdict image .place; bank = startBank; faults = 0; warnings = 0 }
   unfolding recordingVerdict
-  recorded-bad-image bad = recorded-refused (imageVerdict image) (first-cons _ _ ∙ orElse-hit _ _ bad) bad
+  recorded-bad-image bad = recorded-refused (imageVerdict image) (then-image image _ bad) bad
 
   module _ (good : imageVerdict image .number ≡ 0) where
-    by-length : recordingVerdict image recording ≡ refusedUnless (eqb (length recording % 220) 0) wrong-length 0
-    unfolding recordingVerdict
-    by-length = first-cons _ _ ∙ orElse-pass _ _ good ∙ first-last (eqb (length recording % 220) 0) wrong-length 0 (λ none. omega arith)
-
     -- then the recording's length
     pub recorded-uneven : ¬ (length recording % 220 ≡ 0)
         → recorded image recording ≡ record { number = wrong-length; place = 0; bank = startBank; faults = 0; warnings = 0 }
+    unfolding recordingVerdict
     recorded-uneven other =
-        recorded-refused (record { number = wrong-length; place = 0 })
-        (by-length ∙ ap (λ (holds : Bool). refusedUnless holds wrong-length 0) (ne-eqb _ _ other))
-        (λ none. omega arith)
+        recorded-refused (record { number = wrong-length; place = 0 }) (then-wrong image good (length recording % 220) 0 other) (λ none. omega arith)
 
     pub recorded-whole : length recording % 220 ≡ 0
         → recorded image recording ≡ detectedAfter (settingsOf image) recording (length recording / 220)
-    unfolding recorded
+    unfolding recorded recordingVerdict
     recorded-whole even =
-        let passes : recordingVerdict image recording ≡ accepted = by-length ∙ ap (λ (holds : Bool). refusedUnless holds wrong-length 0) (eq-eqb _ _ even) in
-        rw (eq-eqb (recordingVerdict image recording .number) 0 (ap numberOf passes))
+        rw (eq-eqb (recordingVerdict image recording .number) 0 (ap numberOf (then-right image good (length recording % 220) 0 even)))

@@ -1,6 +1,6 @@
 -- What the calls for C answer beyond the library's own calls. Assumes nothing.
 use Prim.Native.Nat.{ℕ, zero, suc, _*_, _/_, _%_}
-use mathlib.Core.Bool.{cond}
+use mathlib.Core.Bool.{Bool, cond}
 use mathlib.Core.List.{List, [], _∷_}
 use lib.Dec.{eqb}
 use lib.ListN.{length, take, drop}
@@ -14,11 +14,15 @@ use Rattle.detectors.specs.Bank.{startBank}
 use Rattle.detectors.specs.Tick.{engineTicked}
 use Rattle.detectors.specs.declared.ticks.Detected.{Detected}
 
+-- the image's tests, then the test of another length
+unfoldable pub imageThen : List ℕ → Bool → Verdict
+imageThen image right = firstRefusal (imageVerdict image ∷ refusedUnless right wrong-length 0 ∷ [])
+
 -- ---- normal bytes
 
--- the image's tests, then the buffer's length
+-- the buffer is eighty bytes
 unfoldable pub normalVerdict : List ℕ → List ℕ → Verdict
-normalVerdict image buffer = firstRefusal (imageVerdict image ∷ refusedUnless (eqb (length buffer) 80) wrong-length 0 ∷ [])
+normalVerdict image buffer = imageThen image (eqb (length buffer) 80)
 
 -- a refusal leaves every byte
 unfoldable pub normalWritten : List ℕ → List ℕ → List ℕ
@@ -38,9 +42,9 @@ detectedAfter settings recording (suc n) =
     (engineTicked settings (detectedAfter settings recording n .bank) (take 220 (drop (220 * n) recording)))
     (detectedAfter settings recording n)
 
--- the image's tests, then the recording's length: whole engine ticks
+-- the recording is whole engine ticks
 unfoldable pub recordingVerdict : List ℕ → List ℕ → Verdict
-recordingVerdict image recording = firstRefusal (imageVerdict image ∷ refusedUnless (eqb (length recording % 220) 0) wrong-length 0 ∷ [])
+recordingVerdict image recording = imageThen image (eqb (length recording % 220) 0)
 
 -- a refusal has the start's bank and zero words
 unfoldable pub recorded : List ℕ → List ℕ → Detected

@@ -12,7 +12,7 @@ use Rattle.records.specs.declared.verdict.Verdict.{Verdict}
 use Rattle.machine.specs.declared.node.Node.{Node}
 use Rattle.steps.specs.Steps.{stepAt, stepCount, stepFault}
 
--- ---- fields
+-- ---- length and fields
 
 -- "A sheet has 1 to 63 steps of 16 bytes"
 unfoldable pub isSheet : List ℕ → Bool

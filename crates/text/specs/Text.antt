@@ -1,4 +1,4 @@
--- A line of text and what is put into it: numbers and bytes as digits. Assumes nothing.
+-- A line of text and what is put into it: words, and numbers as digits. Assumes nothing.
 use Prim.Native.Nat.{ℕ, zero, suc, _-_, _^_, min, max}
 use mathlib.Core.Bool.{cond}
 use mathlib.Core.List.{List, [], _∷_, _++_}
