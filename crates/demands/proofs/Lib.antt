@@ -1,3 +1,4 @@
+pub mod PlaceLaws
 pub mod RecordingLaws
 pub mod Point1
 pub mod Point2

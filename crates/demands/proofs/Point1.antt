@@ -1,8 +1,10 @@
 -- The first point, refusals: a refused call gives its number and place, returns the state that it received, leaves every byte that it was lent, and has zero in
 -- every other field. One theorem for each call that can refuse. Assumes nothing.
-use Prim.Native.Nat.{ℕ}
+use Prim.Native.Nat.{ℕ, _%_, _<_}
 use mathlib.Core.Path.{_≡_}
 use mathlib.Core.List.{List, [], _∷_}
+use native.Mathlib.Nat.{mod-eq-of-lt}
+use native.Mathlib.Omega.{arith}
 use lib.ListN.{length}
 use borrow.Author.Tests.{ne-eqb}
 use Rattle.records.specs.Verdicts.{firstRefusal}
@@ -21,6 +23,7 @@ use Rattle.engine.specs.Engine.{tableStateVerdict, sheetStateVerdict, wordVerdi
 use Rattle.translator.specs.Translation.{translationVerdict, translation, translated}
 use Rattle.capi.specs.Calls.{normalVerdict, normalWritten, recorded}
 use Rattle.capi.proofs.CallLaws as c-calls
+use Rattle.demands.proofs.PlaceLaws.{translation-within, normal-within, table-tick-within, sheet-tick-within, recorded-within}
 use Rattle.demands.proofs.RecordingLaws.{Wordless, recorded-wordless}
 use Rattle.image_laws.proofs.Refusals as images
 use Rattle.detector_laws.proofs.Refusals as detectors
@@ -119,3 +122,20 @@ c-normal-refused = c-calls.normal-kept
 -- wrackbasket_detect
 pub c-detect-refused : (image recording : List ℕ) → ¬ (recorded image recording .number ≡ 0) → Wordless (recorded image recording)
 c-detect-refused = recorded-wordless
+
+-- Nothing of a place is lost where it is packed into sixteen bits, or into eight.
+pub c-translate-place : (sheet table : List ℕ) → translation sheet table .place % 65536 ≡ translation sheet table .place
+unfolding translation
+c-translate-place sheet table = mod-eq-of-lt (omega (arith, translation-within sheet (length table)))
+
+pub c-normal-place : (image buffer : List ℕ) → normalVerdict image buffer .place % 65536 ≡ normalVerdict image buffer .place
+c-normal-place image buffer = mod-eq-of-lt (omega (arith, normal-within image buffer))
+
+pub c-tick-table-place : (table : List ℕ) (state : State) (word : ℕ) → state .at < 256 → tableTicked table state word .place % 256 ≡ tableTicked table state word .place
+c-tick-table-place table state word fits = mod-eq-of-lt (omega (arith, table-tick-within table state word fits))
+
+pub c-tick-sheet-place : (sheet : List ℕ) (state : State) (word : ℕ) → sheetTicked sheet state word .place % 256 ≡ sheetTicked sheet state word .place
+c-tick-sheet-place sheet state word = mod-eq-of-lt (omega (arith, sheet-tick-within sheet state word))
+
+pub c-detect-place : (image recording : List ℕ) → recorded image recording .place % 256 ≡ recorded image recording .place
+c-detect-place image recording = mod-eq-of-lt (omega (arith, recorded-within image recording))
