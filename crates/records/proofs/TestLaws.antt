@@ -1,11 +1,11 @@
 -- Laws that cross from tests to facts, both ways: what a verdict says of its tests. Assumes nothing.
-use Prim.Native.Nat.{ℕ, _%_, _≤_, _<_}
+use Prim.Native.Nat.{ℕ, _≤_, _<_}
 use mathlib.Core.Path.{_≡_, refl, ap, sym, _∙_}
-use mathlib.Core.Bool.{Bool, true, false, not, _&&_, _||_, false≢true}
+use mathlib.Core.Bool.{Bool, true, false, not, _||_, false≢true}
 use mathlib.Core.List.{List, [], _∷_}
 use mathlib.Core.Logic.{_↔_}
 use native.Mathlib.Decide.{ℕ-discrete}
-use borrow.Author.Tests.{ltb-true, ltb-false, lt-ltb, leb-true, le-leb, lt-leb, eqb-true, eq-eqb, ne-eqb, not-true, not-false}
+use borrow.Author.Tests.{ltb-true, lt-ltb, leb-true, le-leb, eqb-true, eq-eqb, ne-eqb}
 use lib.Dec.{ltb, leb, eqb}
 use Rattle.records.specs.Verdicts.{refusedUnless, orElse, firstRefusal}
 use Rattle.records.specs.Lists.{each}
@@ -128,27 +128,3 @@ module _ (test : ℕ → Bool) (number n : ℕ) (refuses : number ≡ 0 → ⊥)
             (record { inside = low .within; refuses = λ z. low .fails (passed j z); before = λ i h. passes i (low .before i h) })
             ∙ unless-shows (test j) number j (means j) (low .fails);
       }
-
--- ---- a flag made by `a || b`
-pub or-left : {r a : Bool} (b : Bool) → a ≡ true → r ≡ a → r ≡ a || b
-or-left b a r = rw a (r ∙ a)
-
-pub or-right : {r a b : Bool} → a ≡ false → r ≡ b → r ≡ a || b
-or-right a r = rw a r
-
--- ---- a length's test: whole records of a width, at least so many bytes and at most so many
-module _ (low high width n : ℕ) where
-  abbrev pub Sized : Bool
-  Sized = leb low n && leb n high && eqb (n % width) 0
-
-  pub sized : low ≤ n → ltb high n ≡ false → not (eqb (n % width) 0) ≡ false → Sized ≡ true
-  sized l h w = rw (le-leb low n l, le-leb n high (ltb-false high n h), not-false (eqb (n % width) 0) w)
-
-  pub too-short : n < low → Sized ≡ false
-  too-short l = rw (lt-leb low n l)
-
-  pub too-long : low ≤ n → ltb high n ≡ true → Sized ≡ false
-  too-long l h = rw (le-leb low n l, lt-leb n high (ltb-true high n h))
-
-  pub uneven : low ≤ n → ltb high n ≡ false → not (eqb (n % width) 0) ≡ true → Sized ≡ false
-  uneven l h w = rw (le-leb low n l, le-leb n high (ltb-false high n h), not-true (eqb (n % width) 0) w)

@@ -9,13 +9,12 @@ use steps::step_at;
 use steps::step_count;
 use steps::step_fault;
 ghost use mathlib.Core.Path.{_≡_};
-ghost use Rattle.sheets.specs.Sheets.{sheetVerdict, fieldsVerdict, unknownVerdict, jumpsKnown, known as Sheets·known};
+ghost use Rattle.sheets.specs.Sheets.{isSheet, sheetVerdict, fieldsVerdict, unknownVerdict, jumpsKnown, known as Sheets·known};
 
 pub fn sheet_verdict(sheet: &[u8]) -> Verdict
     ensures { λ r. ⌜ r ≡ sheetVerdict (now (sheet .entry)) ⌝ }
 {
-    let length = sheet.len();
-    if length < 16 || length > 1008 || length % 16 != 0 {
+    if !is_sheet(sheet) {
         return refuse_unless(false, WRONG_LENGTH, 0);
     }
     let fields = fields_verdict(sheet);
@@ -27,6 +26,14 @@ pub fn sheet_verdict(sheet: &[u8]) -> Verdict
         return repeats;
     }
     unknown_verdict(sheet)
+}
+
+// 1 to 63 steps of 16 bytes.
+fn is_sheet(sheet: &[u8]) -> bool
+    ensures { λ r. ⌜ r ≡ isSheet (now (sheet .entry)) ⌝ }
+{
+    let length = sheet.len();
+    (16 <= length) & (length <= 1008) & (length % 16 == 0)
 }
 
 fn fields_verdict(sheet: &[u8]) -> Verdict

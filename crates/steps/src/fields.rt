@@ -32,9 +32,8 @@ pub fn step_fault(step: Step) -> Verdict
 fn jump_fault(present: bool, jump: u16, offset: usize) -> Verdict
     ensures { λ r. ⌜ r ≡ jumpFault present jump offset ⌝ }
 {
-    let rest = refuse_unless(!present || jump != 0, EXIT_WITHOUT_JUMP, offset);
-    or_else(
-        refuse_unless(present || jump == 0, JUMP_WITHOUT_EXIT, offset),
-        rest,
-    )
+    let led = !present | (jump != 0);
+    let rest = refuse_unless(led, EXIT_WITHOUT_JUMP, offset);
+    let wanted = present | (jump == 0);
+    or_else(refuse_unless(wanted, JUMP_WITHOUT_EXIT, offset), rest)
 }

@@ -34,6 +34,7 @@ pub(crate) fn cell_fault(cells: usize, cell: Node) -> Verdict
 fn next_fault(cells: usize, present: bool, next: u8, offset: usize) -> Verdict
     ensures { λ r. ⌜ r ≡ nextFault cells present next offset ⌝ }
 {
-    let rest = refuse_unless(present || next == 0, JUMP_WITHOUT_EXIT, offset);
+    let wanted = present | (next == 0);
+    let rest = refuse_unless(wanted, JUMP_WITHOUT_EXIT, offset);
     or_else(refuse_unless((next as usize) < cells, RANGE, offset), rest)
 }
