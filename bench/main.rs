@@ -14,7 +14,8 @@ use std::time::Instant;
 extern "C" {
     fn wrackbasket_translate(sheet: *const u8, sheet_length: usize, table: *mut u8, table_length: usize) -> u32;
     fn wrackbasket_normal(image: *const u8, image_length: usize, buffer: *mut u8, buffer_length: usize) -> u32;
-    fn wrackbasket_tick_table(table: *const u8, table_length: usize, at: u8, elapsed: u16, word: u16) -> u64;
+    fn wrackbasket_start(state: *mut u8, state_length: usize) -> u32;
+    fn wrackbasket_tick_table(table: *const u8, table_length: usize, state: *mut u8, state_length: usize, word: u16) -> u64;
     fn wrackbasket_detect(image: *const u8, image_length: usize, recording: *const u8, recording_length: usize) -> u64;
 }
 
@@ -114,11 +115,12 @@ fn table_ticks<'a>(table: &'a [u8]) -> Work<'a> {
         name: "table tick",
         each,
         rattle: Box::new(move || {
-            let (mut at, mut elapsed, mut sum) = (0u8, 0u16, 0u64);
+            let (mut state, mut sum) = ([0u8; 8], 0u64);
+            unsafe { wrackbasket_start(state.as_mut_ptr(), state.len()) };
             for tick in 0..each {
-                let answer = unsafe { wrackbasket_tick_table(table.as_ptr(), table.len(), at, elapsed, word(tick)) };
-                (at, elapsed) = ((answer >> 16) as u8, (answer >> 24) as u16);
-                sum = sum.wrapping_mul(31).wrapping_add(answer >> 40);
+                let (bytes, length) = (table.as_ptr(), table.len());
+                let answer = unsafe { wrackbasket_tick_table(bytes, length, state.as_mut_ptr(), state.len(), word(tick)) };
+                sum = sum.wrapping_mul(31).wrapping_add(answer >> 8);
             }
             sum
         }),
@@ -127,7 +129,7 @@ fn table_ticks<'a>(table: &'a [u8]) -> Work<'a> {
             for tick in 0..each {
                 let answer = paper::tick_table(black_box(table), state, word(tick));
                 state = answer.state;
-                sum = sum.wrapping_mul(31).wrapping_add(u64::from(answer.outputs) | u64::from(answer.step) << 16);
+                sum = sum.wrapping_mul(31).wrapping_add(u64::from(answer.step) | u64::from(answer.outputs) << 8);
             }
             sum
         }),

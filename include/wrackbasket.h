@@ -24,12 +24,26 @@ uint32_t wrackbasket_translate(const uint8_t *sheet, size_t sheet_length, uint8_
  * Answer: bits 7:0 NUMBER, 15:8 zero, 31:16 PLACE. */
 uint32_t wrackbasket_normal(const uint8_t *image, size_t image_length, uint8_t *buffer, size_t buffer_length);
 
-/* One tick of the engine on a table, or on a sheet, with a word of faults, from the cell (or step) `at`, `elapsed` ticks
- * after it was entered. A run starts at 0 with elapsed 0.
- * Answer: bits 7:0 NUMBER, 15:8 PLACE, 23:16 the cell (or step) after the tick, 39:24 elapsed, 55:40 the outputs, 63:56
- * the step that shows. A refusal has the state as it was received, and no outputs. */
-uint64_t wrackbasket_tick_table(const uint8_t *table, size_t table_length, uint8_t at, uint16_t elapsed, uint16_t word);
-uint64_t wrackbasket_tick_sheet(const uint8_t *sheet, size_t sheet_length, uint8_t at, uint16_t elapsed, uint16_t word);
+/* An engine's state is eight bytes that the caller keeps and lends, in one form for ever: the number of the cell (or step),
+ * held, elapsed (2), ticks (2), two zero bytes; numbers of two bytes have the low byte first. Held and ticks are 0. */
+#define WRACKBASKET_STATE_LENGTH 8
+#define WRACKBASKET_STATE_AT(state) ((unsigned)(state)[0])
+#define WRACKBASKET_STATE_ELAPSED(state) ((unsigned)(state)[2] | (unsigned)(state)[3] << 8)
+
+/* Writes the state in which every run starts, whatever stood in the eight bytes.
+ * Answer: bits 7:0 NUMBER, 15:8 zero, 31:16 PLACE. */
+uint32_t wrackbasket_start(uint8_t *state, size_t state_length);
+
+/* One tick of the engine on a table, or on a sheet, with a word of faults: the lent state becomes the next state. Another
+ * length of the state is refused (1), then a byte of it that must be 0 and is not (8), then what the tick itself refuses.
+ * Answer: bits 7:0 NUMBER, 15:8 the step that shows, 31:16 the outputs, 62:32 PLACE, 63 zero. A refusal shows no step and no
+ * outputs. */
+uint64_t wrackbasket_tick_table(const uint8_t *table, size_t table_length, uint8_t *state, size_t state_length, uint16_t word);
+uint64_t wrackbasket_tick_sheet(const uint8_t *sheet, size_t sheet_length, uint8_t *state, size_t state_length, uint16_t word);
+
+/* What shows at a state, which stays: a tick's tests without the word, and a tick's answer. */
+uint64_t wrackbasket_show_table(const uint8_t *table, size_t table_length, const uint8_t *state, size_t state_length);
+uint64_t wrackbasket_show_sheet(const uint8_t *sheet, size_t sheet_length, const uint8_t *state, size_t state_length);
 
 /* The detectors under an image's settings, from their start over a recording of whole engine ticks, 220 bytes each. The
  * image is tested first, then the recording's length, then each engine tick when its turn comes.
@@ -38,14 +52,13 @@ uint64_t wrackbasket_tick_sheet(const uint8_t *sheet, size_t sheet_length, uint8
 uint64_t wrackbasket_detect(const uint8_t *image, size_t image_length, const uint8_t *recording, size_t recording_length);
 
 #define WRACKBASKET_NUMBER(answer) ((unsigned)((answer) & 0xff))
-#define WRACKBASKET_CELLS(answer) ((unsigned)((answer) >> 8 & 0xff))  /* translate */
-#define WRACKBASKET_ADDRESS(answer) ((unsigned)((answer) >> 16))      /* the place of translate and normal */
-#define WRACKBASKET_PLACE(answer) ((unsigned)((answer) >> 8 & 0xff))  /* the place of tick and detect */
-#define WRACKBASKET_AT(answer) ((unsigned)((answer) >> 16 & 0xff))
-#define WRACKBASKET_ELAPSED(answer) ((unsigned)((answer) >> 24 & 0xffff))
-#define WRACKBASKET_OUTPUTS(answer) ((unsigned)((answer) >> 40 & 0xffff))
-#define WRACKBASKET_STEP(answer) ((unsigned)((answer) >> 56))
-#define WRACKBASKET_FAULTS(answer) ((unsigned)((answer) >> 16 & 0xffff))
-#define WRACKBASKET_WARNINGS(answer) ((unsigned)((answer) >> 32 & 0xffff))
+#define WRACKBASKET_CELLS(answer) ((unsigned)((answer) >> 8 & 0xff))        /* translate */
+#define WRACKBASKET_ADDRESS(answer) ((unsigned)((answer) >> 16))            /* the place of translate, normal and start */
+#define WRACKBASKET_STEP(answer) ((unsigned)((answer) >> 8 & 0xff))         /* tick and show */
+#define WRACKBASKET_OUTPUTS(answer) ((unsigned)((answer) >> 16 & 0xffff))   /* tick and show */
+#define WRACKBASKET_TICK_PLACE(answer) ((unsigned)((answer) >> 32))         /* the place of tick and show */
+#define WRACKBASKET_PLACE(answer) ((unsigned)((answer) >> 8 & 0xff))        /* the place of detect */
+#define WRACKBASKET_FAULTS(answer) ((unsigned)((answer) >> 16 & 0xffff))    /* detect */
+#define WRACKBASKET_WARNINGS(answer) ((unsigned)((answer) >> 32 & 0xffff))  /* detect */
 
 #endif

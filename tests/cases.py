@@ -4,15 +4,15 @@ from typing import NamedTuple
 from image_model import numbers
 
 (READ, WRITE, TICK, ENGINE_TICK, PINS, TRANSLATE, TICK_TABLE, TICK_SHEET, SHOW_TABLE, SHOW_SHEET,
- TABLE_VERDICT, SHEET_VERDICT, START) = range(1, 14)
+ TABLE_VERDICT, SHEET_VERDICT, START, FOR_C_START, FOR_C_TICK_TABLE, FOR_C_TICK_SHEET, FOR_C_SHOW_TABLE,
+ FOR_C_SHOW_SHEET) = range(1, 19)
 LONGEST_PART = 4096
 
 # The widths in bytes of what is a list of numbers in the models.
 VERDICT = (1, 2)
 GROUP = (1, 1, 1, 1, 2, 1, 1, 1, 1, 2, 2, 1, 1)
 CHANNEL = (1, 1, 1, 2, 1, 2, 2)
-STATE = (1, 2)
-TICKED = (*VERDICT, *STATE, 2, 1)
+STATE = (1, 1, 2, 2, 2)
 
 
 class Case(NamedTuple):
@@ -44,12 +44,15 @@ def bank_bytes(bank):
 
 
 def state_bytes(state):
-    return joined(STATE, state)
+    """Number of the step or cell, held, elapsed, ticks, two zero bytes; held and ticks are 0."""
+    at, elapsed = state
+    return joined(STATE, (at, 0, elapsed, 0, 0))
 
 
 def ticked_bytes(ticked):
     """The answer of the engine: number, place, at, elapsed, outputs, step."""
-    return joined(TICKED, ticked)
+    number, place, at, elapsed, outputs, step = ticked
+    return verdict_bytes((number, place)) + state_bytes((at, elapsed)) + joined((2, 1), (outputs, step))
 
 
 def pattern(length):

@@ -15,6 +15,7 @@ import sys
 
 import detector_vectors
 import engine_vectors
+import for_c_vectors
 import image_vectors
 import pin_vectors
 import sheet_vectors
@@ -24,7 +25,7 @@ from detector_model import start
 from image_model import LENGTH
 from sheet_model import START as START_STATE
 
-SCRIPTS = (image_vectors, writing_vectors, detector_vectors, pin_vectors, sheet_vectors, engine_vectors)
+SCRIPTS = (image_vectors, writing_vectors, detector_vectors, pin_vectors, sheet_vectors, engine_vectors, for_c_vectors)
 REPLAY = pathlib.Path(__file__).parent.parent / "crates" / "replay"
 
 

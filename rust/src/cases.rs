@@ -1,10 +1,11 @@
 //! A case of the stream that docs/CASES.md describes, and how its parts are written as bytes.
 
+use crate::for_c::state_bytes;
 use crate::paper::{Bank, Exit, Settings, State, Verdict};
 use std::io::{self, Write};
 
 pub struct Case {
-    /// The kind of call, 1 to 13.
+    /// The kind of call, 1 to 18.
     pub kind: u8,
     pub given: Vec<u8>,
     pub lent: Vec<u8>,
@@ -78,8 +79,7 @@ pub fn put_bank(bytes: &mut Vec<u8>, bank: &Bank) {
     }
 }
 
-/// "A state, 3 bytes: number of the step or cell (1), elapsed (2)."
+/// "A state, 8 bytes".
 pub fn put_state(bytes: &mut Vec<u8>, state: State) {
-    bytes.push(state.number);
-    put_word(bytes, state.elapsed);
+    bytes.extend_from_slice(&state_bytes(state));
 }

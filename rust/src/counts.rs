@@ -5,7 +5,7 @@ use crate::generate::FAMILY_NAMES;
 use crate::paper::Exit;
 
 const NUMBERS: usize = 11;
-const KINDS: usize = 14;
+const KINDS: usize = 19;
 const MOST_VERDICTS: usize = 3;
 
 #[derive(Default)]
@@ -60,7 +60,7 @@ impl Counts {
                 self.cell_counts[2] += u64::from(cells == 63);
                 self.cell_counts[3] += u64::from(case.lent.len() > 12 * cells);
             }
-            7 => self.entered_out_of_range += u64::from(word(6) >= 1024 || case.expected[8] > 62),
+            7 => self.entered_out_of_range += u64::from(word(11) >= 1024 || case.expected[13] > 62),
             _ => {}
         }
     }

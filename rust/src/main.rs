@@ -3,6 +3,7 @@
 
 mod cases;
 mod counts;
+mod for_c;
 mod generate;
 mod paper;
 mod selfcheck;

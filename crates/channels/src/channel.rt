@@ -65,11 +65,9 @@ impl Channel {
         let input = group.input;
         let mut before = self;
         let mut after = self;
-        let mut i = 0;
-        while i < n {
+        for i in 0..n {
             before = after;
             after = before.after(group, frame::sample(input, frames, i, k));
-            i += 1;
         }
         Ran {
             channel: after,

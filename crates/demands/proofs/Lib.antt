@@ -6,5 +6,6 @@ pub mod Point2Detectors
 pub mod Point3
 pub mod PathLaws
 pub mod Path
+pub mod ForC
 pub mod Starred
 pub mod OneAnswer

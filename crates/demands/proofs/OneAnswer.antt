@@ -7,7 +7,7 @@ use lib.ListN.{length, getD}
 use Rattle.records.specs.Lists.{copied}
 use Rattle.records.specs.Bits.{bits, joined}
 use Rattle.records.specs.Words.{wordAt, bitWord}
-use Rattle.records.specs.Verdicts.{refusedUnless, orElse}
+use Rattle.records.specs.Verdicts.{accepted, refused, refusedUnless, orElse}
 use Rattle.records.specs.declared.verdict.Verdict.{Verdict}
 use Rattle.text.specs.Text.{emptyLine, appended, written as lineText, decimalText, hexText}
 use Rattle.text.specs.declared.Line.{Line}
@@ -22,19 +22,25 @@ use Rattle.channels.specs.declared.channel.Channel.{Channel}
 use Rattle.detectors.specs.Bank.{startBank}
 use Rattle.detectors.specs.Tick.{ticked, engineTicked}
 use Rattle.detectors.specs.declared.bank.Bank.{Bank}
+use Rattle.detectors.specs.declared.ticks.Detected.{Detected}
 use Rattle.pins.specs.Pins.{driven}
 use Rattle.machine.specs.Fields.{elapsedInRange}
-use Rattle.machine.specs.Machine.{startState, after}
+use Rattle.machine.specs.Machine.{startState, exitNumber, tickAt}
+use Rattle.machine.specs.declared.exits.Exit.{Exit}
 use Rattle.machine.specs.declared.node.Node.{Node}
 use Rattle.machine.specs.declared.state.State.{State}
-use Rattle.tables.specs.Tables.{cellAt, partVerdict, cellWritten, cellVerdict, tableVerdict}
+use Rattle.tables.specs.Tables.{cellAt, partVerdict, cellWritten, cellStanding, tableVerdict}
 use Rattle.steps.specs.Steps.{stepAt, stepCount, stepFault}
 use Rattle.steps.specs.declared.step.Step.{Step}
 use Rattle.sheets.specs.Sheets.{nodeAt, sheetVerdict}
-use Rattle.engine.specs.Engine.{tableTicked, tableShown, sheetTicked, sheetShown}
+use Rattle.states.specs.States.{stateFrom, stateBytes, bytesVerdict}
+use Rattle.engine.specs.Engine.{Form, ticked as form-ticked, shownAt}
+use Rattle.engine.specs.declared.answer.Ticked.{Ticked}
 use Rattle.translator.specs.Translation.{translation, translated}
-use Rattle.capi.specs.Packed.{packedTranslation, packedVerdict, packedTick, packedWords}
-use Rattle.capi.specs.Calls.{normalVerdict, normalWritten, recorded}
+use Rattle.packing.specs.Packed.{packedParts, packedTranslation, packedVerdict, packedTick, packedWords}
+use Rattle.state_calls.specs.StateCalls.{startVerdict, startWritten, tickedOn, shownOn, stateAfter}
+use Rattle.recordings.specs.Recordings.{recorded}
+use Rattle.capi.specs.Calls.{normalVerdict, normalWritten}
 
 -- any two values that a promise allows are equal, where it fixes them by a definition
 abbrev pub OneAnswer {ℓ} : {A : Type ℓ} → A → Type ℓ
@@ -95,8 +101,8 @@ node-at sheet k = one-answer (nodeAt sheet k)
 pub table-verdict : (table : List ℕ) → OneAnswer (tableVerdict table)
 table-verdict table = one-answer (tableVerdict table)
 
-pub cell-verdict : (table : List ℕ) (k : ℕ) → OneAnswer (cellVerdict table k)
-cell-verdict table k = one-answer (cellVerdict table k)
+pub cell-standing : (table : List ℕ) (k : ℕ) → OneAnswer (cellStanding table k)
+cell-standing table k = one-answer (cellStanding table k)
 
 pub cell-at : (table : List ℕ) (k : ℕ) → OneAnswer (cellAt table k)
 cell-at table k = one-answer (cellAt table k)
@@ -111,28 +117,68 @@ write-cell cell part = (one-answer (partVerdict part), one-answer (cellWritten c
 pub start-state : OneAnswer startState
 start-state = one-answer startState
 
-pub next-state : (node : Node) (word : ℕ) (state : State) → OneAnswer (after node word state)
-next-state node word state = one-answer (after node word state)
+pub machine-tick : (node : Node) (word : ℕ) (state : State) → OneAnswer (tickAt node word state)
+machine-tick node word state = one-answer (tickAt node word state)
+
+pub exit-number : (exit : Exit) → OneAnswer (exitNumber exit)
+exit-number exit = one-answer (exitNumber exit)
 
 pub elapsed-in-range : (timeout elapsed : ℕ) → OneAnswer (elapsedInRange timeout elapsed)
 elapsed-in-range timeout elapsed = one-answer (elapsedInRange timeout elapsed)
 
-pub tick-table : (table : List ℕ) (state : State) (word : ℕ) → OneAnswer (tableTicked table state word)
-tick-table table state word = one-answer (tableTicked table state word)
+-- engine::tick_table, engine::tick_sheet
+pub form-tick : (form : Form) (bytes : List ℕ) (state : State) (word : ℕ) → OneAnswer (form-ticked form bytes state word)
+form-tick form bytes state word = one-answer (form-ticked form bytes state word)
 
-pub show-table : (table : List ℕ) (state : State) → OneAnswer (tableShown table state)
-show-table table state = one-answer (tableShown table state)
+-- engine::show_table, engine::show_sheet
+pub form-show : (form : Form) (bytes : List ℕ) (state : State) → OneAnswer (shownAt form bytes state)
+form-show form bytes state = one-answer (shownAt form bytes state)
 
-pub tick-sheet : (sheet : List ℕ) (state : State) (word : ℕ) → OneAnswer (sheetTicked sheet state word)
-tick-sheet sheet state word = one-answer (sheetTicked sheet state word)
+-- ---- states: their bytes
 
-pub show-sheet : (sheet : List ℕ) (state : State) → OneAnswer (sheetShown sheet state)
-show-sheet sheet state = one-answer (sheetShown sheet state)
+pub state-from : (bytes : List ℕ) → OneAnswer (stateFrom bytes)
+state-from bytes = one-answer (stateFrom bytes)
+
+pub state-bytes : (state : State) → OneAnswer (stateBytes state)
+state-bytes state = one-answer (stateBytes state)
+
+pub bytes-verdict : (bytes : List ℕ) → OneAnswer (bytesVerdict bytes)
+bytes-verdict bytes = one-answer (bytesVerdict bytes)
+
+-- ---- state_calls: the answer, and the state's bytes
+
+pub state-start : (state : List ℕ) → OneAnswer (startVerdict state) × OneAnswer (startWritten state)
+state-start state = (one-answer (startVerdict state), one-answer (startWritten state))
+
+-- state_calls::tick_table, state_calls::tick_sheet
+pub state-tick : (form : Form) (bytes state : List ℕ) (word : ℕ)
+    → let answer = tickedOn form bytes state word in OneAnswer answer × OneAnswer (stateAfter answer state)
+state-tick form bytes state word = let answer = tickedOn form bytes state word in (one-answer answer, one-answer (stateAfter answer state))
+
+-- state_calls::show_table, state_calls::show_sheet
+pub state-show : (form : Form) (bytes state : List ℕ) → OneAnswer (shownOn form bytes state)
+state-show form bytes state = one-answer (shownOn form bytes state)
+
+-- ---- recordings
+
+pub record-all : (image recording : List ℕ) → OneAnswer (recorded image recording)
+record-all image recording = one-answer (recorded image recording)
 
 -- ---- translator: the answer, and the buffer
 
 pub translate : (sheet buffer : List ℕ) → OneAnswer (translation sheet buffer) × OneAnswer (translated sheet buffer)
 translate sheet buffer = (one-answer (translation sheet buffer), one-answer (translated sheet buffer))
+
+-- ---- packing
+
+pub pack : (verdict : Verdict) (cells : ℕ) → OneAnswer (packedParts verdict cells)
+pack verdict cells = one-answer (packedParts verdict cells)
+
+pub pack-tick : (answer : Ticked) → OneAnswer (packedTick answer)
+pack-tick answer = one-answer (packedTick answer)
+
+pub pack-words : (answer : Detected) → OneAnswer (packedWords answer)
+pack-words answer = one-answer (packedWords answer)
 
 -- ---- the calls for C
 
@@ -142,11 +188,19 @@ c-translate sheet table = (one-answer (packedTranslation (translation sheet tabl
 pub c-normal : (image buffer : List ℕ) → OneAnswer (packedVerdict (normalVerdict image buffer)) × OneAnswer (normalWritten image buffer)
 c-normal image buffer = (one-answer (packedVerdict (normalVerdict image buffer)), one-answer (normalWritten image buffer))
 
-pub c-tick-table : (table : List ℕ) (state : State) (word : ℕ) → OneAnswer (packedTick (tableTicked table state word))
-c-tick-table table state word = one-answer (packedTick (tableTicked table state word))
+-- the answer, and the state's bytes
+pub c-start : (state : List ℕ) → OneAnswer (packedVerdict (startVerdict state)) × OneAnswer (startWritten state)
+c-start state = (one-answer (packedVerdict (startVerdict state)), one-answer (startWritten state))
 
-pub c-tick-sheet : (sheet : List ℕ) (state : State) (word : ℕ) → OneAnswer (packedTick (sheetTicked sheet state word))
-c-tick-sheet sheet state word = one-answer (packedTick (sheetTicked sheet state word))
+-- wrackbasket_tick_table, wrackbasket_tick_sheet: the answer, and the state's bytes
+pub c-tick : (form : Form) (bytes state : List ℕ) (word : ℕ)
+    → let answer = tickedOn form bytes state word in OneAnswer (packedTick answer) × OneAnswer (stateAfter answer state)
+c-tick form bytes state word =
+    let answer = tickedOn form bytes state word in (one-answer (packedTick answer), one-answer (stateAfter answer state))
+
+-- wrackbasket_show_table, wrackbasket_show_sheet
+pub c-show : (form : Form) (bytes state : List ℕ) → OneAnswer (packedTick (shownOn form bytes state))
+c-show form bytes state = one-answer (packedTick (shownOn form bytes state))
 
 pub c-detect : (image recording : List ℕ) → OneAnswer (packedWords (recorded image recording))
 c-detect image recording = one-answer (packedWords (recorded image recording))
@@ -162,11 +216,17 @@ word-bit word k = one-answer (bits word k 1)
 pub join : (value low rest : ℕ) → OneAnswer (joined value low rest)
 join value low rest = one-answer (joined value low rest)
 
-pub refuse-unless : (holds : Bool) (number place : ℕ) → OneAnswer (refusedUnless holds number place)
-refuse-unless holds number place = one-answer (refusedUnless holds number place)
+pub accept : OneAnswer accepted
+accept = one-answer accepted
 
-pub or-else : (first second : Verdict) → OneAnswer (orElse first second)
-or-else first second = one-answer (orElse first second)
+pub refuse : (number place : ℕ) → OneAnswer (refused number place)
+refuse number place = one-answer (refused number place)
+
+pub unless : (verdict : Verdict) (holds : Bool) (number place : ℕ) → OneAnswer (orElse verdict (refusedUnless holds number place))
+unless verdict holds number place = one-answer (orElse verdict (refusedUnless holds number place))
+
+pub then : (verdict other : Verdict) → OneAnswer (orElse verdict other)
+then verdict other = one-answer (orElse verdict other)
 
 pub word-at : (bytes : List ℕ) (at : ℕ) → OneAnswer (wordAt bytes at)
 word-at bytes at = one-answer (wordAt bytes at)

@@ -17,13 +17,14 @@ use Rattle.detectors.specs.declared.bank.Bank.{Bank}
 use Rattle.detectors.specs.declared.ticks.Detected.{Detected}
 use Rattle.pins.specs.Pins.{driven}
 use Rattle.pins.specs.declared.Driven.{Driven}
+use Rattle.engine.specs.Engine.{Sheet, Table}
 use Rattle.engine.specs.Runs.{sheetRun, tableRun}
 use Rattle.engine.specs.declared.answer.Ticked.{Ticked}
 use Rattle.translator.specs.Translation.{translation}
 use Rattle.detector_laws.proofs.Refusals.{Acceptable}
 use Rattle.detector_laws.proofs.Calls.{words-fit}
 use Rattle.demands.proofs.Point2Detectors.{start-accepted, accepted-again, accepted-exactly}
-use Rattle.demands.proofs.Point3.{NoneRefused, lentTable, sheet-run-length, table-run-length}
+use Rattle.demands.proofs.Point3.{NoneRefused, lentTable, run-length}
 use Rattle.demands.proofs.PathLaws.{read-settings, same-path}
 
 -- ---- the words of the statement
@@ -43,7 +44,7 @@ pinsAt settings answer = driven settings (answer .outputs)
 
 -- no call of the pins is refused
 abbrev pub AllDriven : List Driven → Type 0
-AllDriven pins = Every (λ answer. answer .number ≡ 0) pins
+AllDriven pins = Every (λ answer. answer .verdict .number ≡ 0) pins
 
 -- "all twenty frames, 220 bytes", with bits 5 to 7 of every level byte 0
 abbrev pub TwentyFrames : List ℕ → Type 0
@@ -65,7 +66,7 @@ words-below settings bank (tick ∷ ticks) = words-fit 20 settings bank tick .fa
 
 -- From an accepted bank under accepted settings, no engine tick of twenty frames is refused.
 pub ticks-taken : (settings : Settings) (bank : Bank) (ticks : List (List ℕ)) → settingsVerdict settings .number ≡ 0 → bankVerdict settings bank ≡ accepted
-    → Every TwentyFrames ticks → Every (λ answer. answer .number ≡ 0) (detectedRun settings bank ticks)
+    → Every TwentyFrames ticks → Every (λ answer. answer .verdict .number ≡ 0) (detectedRun settings bank ticks)
 unfolding detectedRun engineTicked
 ticks-taken settings bank [] good held none = none
 ticks-taken settings bank (tick ∷ ticks) good held (fine also rest) =
@@ -77,7 +78,7 @@ ticks-taken settings bank (tick ∷ ticks) good held (fine also rest) =
 
 -- For every accepted image, accepted sheet and list of engine ticks, the pins driven by the sheet's run and by the table's run, fed with the fault words that the
 -- detectors give, are the same at the start and after every engine tick, and no call of the engine or of the pins is refused.
-pub path : (image sheet buffer : List ℕ) (ticks : List (List ℕ)) → Bytes image → reading image .number ≡ 0 → translation sheet buffer .number ≡ 0
+pub path : (image sheet buffer : List ℕ) (ticks : List (List ℕ)) → Bytes image → reading image .verdict .number ≡ 0 → translation sheet buffer .verdict .number ≡ 0
     → let settings = reading image .settings in
     let words = faultWords settings startBank ticks in
     (map (pinsAt settings) (sheetRun sheet words) ≡ map (pinsAt settings) (tableRun (lentTable sheet buffer) words))
@@ -89,8 +90,8 @@ path image sheet buffer ticks bytes reads translates =
     same-path _ sheet buffer _ (read-settings image bytes reads) translates (words-below (reading image .settings) startBank ticks)
 
 -- Where every engine tick is twenty frames with level bytes below 32, no engine tick along the path is refused.
-pub path-ticks : (image : List ℕ) (ticks : List (List ℕ)) → Bytes image → reading image .number ≡ 0 → Every TwentyFrames ticks
-    → Every (λ answer. answer .number ≡ 0) (detectedRun (reading image .settings) startBank ticks)
+pub path-ticks : (image : List ℕ) (ticks : List (List ℕ)) → Bytes image → reading image .verdict .number ≡ 0 → Every TwentyFrames ticks
+    → Every (λ answer. answer .verdict .number ≡ 0) (detectedRun (reading image .settings) startBank ticks)
 path-ticks image ticks bytes reads =
     let good = read-settings image bytes reads in ticks-taken _ startBank ticks good (start-accepted _ good)
 
@@ -101,6 +102,6 @@ pub path-length : (settings : Settings) (sheet table : List ℕ) (ticks : List (
 path-length settings sheet table ticks =
     let words = faultWords settings startBank ticks in
     let more = ap (λ (n : ℕ). 1 + n) (words-length settings startBank ticks) in (
-      length-map (sheetRun sheet words) (pinsAt settings) ∙ sheet-run-length sheet words ∙ more,
-      length-map (tableRun table words) (pinsAt settings) ∙ table-run-length table words ∙ more,
+      length-map (sheetRun sheet words) (pinsAt settings) ∙ run-length Sheet sheet words ∙ more,
+      length-map (tableRun table words) (pinsAt settings) ∙ run-length Table table words ∙ more,
     )

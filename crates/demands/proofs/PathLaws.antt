@@ -11,6 +11,7 @@ use Rattle.image.specs.declared.settings.Settings.{Settings}
 use Rattle.writing.specs.Writing.{settingsVerdict}
 use Rattle.pins.specs.Pins.{pinsVerdict, driven}
 use Rattle.pins.specs.declared.Driven.{Driven}
+use Rattle.engine.specs.Engine.{Sheet, Table}
 use Rattle.engine.specs.Runs.{sheetRun, tableRun}
 use Rattle.engine.specs.declared.answer.Ticked.{Ticked}
 use Rattle.translator.specs.Translation.{translation}
@@ -22,13 +23,13 @@ use Rattle.sheets.proofs.AcceptedSheet.{sheet-accepted}
 use Rattle.demands.proofs.Point3.{shown, NoneRefused, lentTable, third-point}
 
 -- the settings of an accepted image are accepted
-pub read-settings : (image : List ℕ) → Bytes image → reading image .number ≡ 0 → settingsVerdict (reading image .settings) .number ≡ 0
+pub read-settings : (image : List ℕ) → Bytes image → reading image .verdict .number ≡ 0 → settingsVerdict (reading image .settings) .number ≡ 0
 unfolding reading
 read-settings image bytes reads =
     ap (λ (r : Reading). settingsVerdict (r .settings) .number) (reading-accepted image reads) ∙ ap numberOf (settings-of-accepted image bytes reads)
 
 -- the pins take every word of outputs below 1024 under accepted settings
-pins-taken : (settings : Settings) → settingsVerdict settings .number ≡ 0 → (outputs : ℕ) → outputs < 1024 → driven settings outputs .number ≡ 0
+pins-taken : (settings : Settings) → settingsVerdict settings .number ≡ 0 → (outputs : ℕ) → outputs < 1024 → driven settings outputs .verdict .number ≡ 0
 unfolding driven pinsVerdict
 pins-taken settings good outputs below = all-zero _ (good also unless-passes (lt-test _ _) _ _ below also none)
 
@@ -41,19 +42,19 @@ same-outputs {B} make sheets tables same = sym (map-map first shown sheets) ∙ 
     first seen = make (seen .0)
 
 -- the two runs drive the same pins, and no call along them is refused
-pub same-path : (settings : Settings) (sheet buffer words : List ℕ) → settingsVerdict settings .number ≡ 0 → translation sheet buffer .number ≡ 0
+pub same-path : (settings : Settings) (sheet buffer words : List ℕ) → settingsVerdict settings .number ≡ 0 → translation sheet buffer .verdict .number ≡ 0
     → Every (λ word. word < 1024) words
     → let pins : List Ticked → List Driven = map (λ answer. driven settings (answer .outputs)) in
     let sheets = sheetRun sheet words in
     let tables = tableRun (lentTable sheet buffer) words in
     (pins sheets ≡ pins tables)
-    × Every (λ answer. answer .number ≡ 0) (pins sheets)
-    × Every (λ answer. answer .number ≡ 0) (pins tables)
+    × Every (λ answer. answer .verdict .number ≡ 0) (pins sheets)
+    × Every (λ answer. answer .verdict .number ≡ 0) (pins tables)
     × NoneRefused sheets
     × NoneRefused tables
 same-path settings sheet buffer words good translates below =
     let runs = third-point sheet buffer words translates below in
-    let fits = run-outputs sheet (sheet-accepted sheet .1 (translation-accepted sheet buffer .0 translates .0)) words below in
+    let fits = run-outputs Sheet sheet (sheet-accepted sheet .1 (translation-accepted sheet buffer .0 translates .0)) words below in
     let same = same-outputs (driven settings) (sheetRun sheet words) (tableRun (lentTable sheet buffer) words) (runs .0) in
     let taken = every-map (λ answer. driven settings (answer .outputs)) (λ answer. pins-taken settings good (answer .outputs)) fits in
-    (same, taken, subst (Every (λ answer. answer .number ≡ 0)) same taken, runs .1, runs .2)
+    (same, taken, subst (Every (λ answer. answer .verdict .number ≡ 0)) same taken, runs .1, runs .2)

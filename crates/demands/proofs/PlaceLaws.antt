@@ -14,7 +14,7 @@ use Rattle.records.specs.Numbers.{wrong-length, reserved, unprinted, out-of-ran
 use Rattle.records.specs.Tags.{repeats}
 use Rattle.records.specs.Verdicts.{refusedUnless, orElse, firstRefusal}
 use Rattle.records.specs.declared.verdict.Verdict.{Verdict}
-use Rattle.records.proofs.Every.{Every, none, _also_}
+use Rattle.records.proofs.Every.{Every, none, _also_, Bytes}
 use Rattle.records.proofs.VerdictLaws.{orElse-pass, orElse-hit, first-append}
 use Rattle.image.specs.Codes.{codeNumber}
 use Rattle.image.specs.Reading.{usable, printed, byteVerdict, imageVerdict, settingsOf, groupAt}
@@ -32,10 +32,15 @@ use Rattle.machine.specs.declared.state.State.{State}
 use Rattle.steps.specs.Steps.{stepAt, stepCount, stepFault}
 use Rattle.sheets.specs.Sheets.{isSheet, fieldsVerdict, repeatsVerdict, jumpsKnown, unknownVerdict, sheetTests, sheetVerdict, nodeAt}
 use Rattle.tables.specs.Tables.{isTable, cellCount, cellAt, cellFault, fieldsVerdict as cellFields, cellTests, cellVerdict}
-use Rattle.engine.specs.Engine.{tableStateVerdict, sheetStateVerdict, wordVerdict, answered, tableTicked, sheetTicked}
+use Rattle.states.specs.States.{stateFrom, zerosStand, bytesVerdict}
+use Rattle.engine.specs.Engine.{Form, Sheet, Table, nodesOf, standing, stateTested, stateVerdict, wordVerdict, answeredAt, wentFrom, ticked, shownAt}
+use Rattle.engine.specs.declared.answer.Ticked.{Ticked}
 use Rattle.translator.specs.Translation.{cellTotal, translationVerdict}
-use Rattle.capi.specs.Calls.{imageThen, normalVerdict, startDetected, detectedAfter, recorded}
-use Rattle.capi.proofs.CallLaws.{recorded-bad-image, recorded-uneven, recorded-whole}
+use Rattle.state_calls.specs.StateCalls.{startVerdict, onBytes, tickedOn, shownOn}
+use Rattle.state_calls.proofs.StateCallLaws.{on-bytes-passed, on-bytes-refused}
+use Rattle.recordings.specs.Recordings.{imageThen, startDetected, detectedAfter, recorded}
+use Rattle.capi.specs.Calls.{normalVerdict}
+use Rattle.recordings.proofs.RecordingLaws.{recorded-bad-image, recorded-uneven, recorded-whole}
 
 -- ---- over any verdicts
 
@@ -128,10 +133,9 @@ translation-within sheet room =
 
 -- ---- the engine's answers
 
-answered-within : (most : ℕ) (verdict : Verdict) (nodes : ℕ → Node) (received next : State) → Within most verdict
-    → answered verdict nodes received next .place ≤ most
-unfolding answered
-answered-within most verdict nodes received next h =
+answered-within : (most : ℕ) (verdict : Verdict) (state : State) (node : Node) → Within most verdict → answeredAt verdict state node .verdict .place ≤ most
+unfolding answeredAt
+answered-within most verdict state node h =
     elim (ℕ-discrete (verdict .number) 0) [
       | yes passes ↦ rw (eq-eqb (verdict .number) 0 passes) (omega arith)
       | no refuses ↦ rw (ne-eqb (verdict .number) 0 refuses) h
@@ -151,41 +155,68 @@ cell-within table k h =
     also unless-within 255 (eqb (cellFault (cellCount table) (cellAt table k) .number) 0) out-of-range k (omega arith)
     also none)
 
-table-state-within : (table : List ℕ) (state : State) → state .at < 256 → Within 255 (tableStateVerdict table state)
-unfolding tableStateVerdict
-table-state-within table state h =
+stood-within : (form : Form) (bytes : List ℕ) (k : ℕ) → k < 256 → Within 255 (standing form bytes k)
+unfolding standing
+stood-within Table table k h = cell-within table k h
+stood-within Sheet sheet k h =
     first-within 255 _
-    (cell-within table (state .at) h
-    also unless-within 255 (elapsedInRange (cellAt table (state .at) .timeout) (state .elapsed)) unreachable 0 (omega arith)
+    (omega (arith, sheet-within sheet) also unless-within 255 (ltb k (stepCount sheet)) unreachable 0 (omega arith) also none)
+
+state-within : (form : Form) (bytes : List ℕ) (state : State) → state .at < 256 → Within 255 (stateVerdict form bytes state)
+unfolding stateVerdict stateTested
+state-within form bytes state h =
+    first-within 255 _
+    (stood-within form bytes (state .at) h
+    also unless-within 255 (elapsedInRange (nodesOf form bytes (state .at) .timeout) (state .elapsed)) unreachable 0 (omega arith)
     also none)
 
-pub table-tick-within : (table : List ℕ) (state : State) (word : ℕ) → state .at < 256 → tableTicked table state word .place ≤ 255
-unfolding tableTicked
-table-tick-within table state word h =
-    answered-within 255 _ (cellAt table) state (tickOn (cellAt table) word state) (word-within 255 _ word (table-state-within table state h))
+tick-place : (form : Form) (bytes : List ℕ) (state : State) (word : ℕ) → state .at < 256 → ticked form bytes state word .verdict .place ≤ 255
+unfolding ticked wentFrom
+tick-place form bytes state word h = answered-within 255 _ _ _ (word-within 255 _ word (state-within form bytes state h))
 
-sheet-state-within : (sheet : List ℕ) (state : State) → Within 62 (sheetStateVerdict sheet state)
-unfolding sheetStateVerdict
-sheet-state-within sheet state =
-    first-within 62 _
-    (sheet-within sheet
-    also unless-within 62 (ltb (state .at) (stepCount sheet)) unreachable 0 (omega arith)
-    also unless-within 62 (elapsedInRange (nodeAt sheet (state .at) .timeout) (state .elapsed)) unreachable 0 (omega arith)
-    also none)
-
-pub sheet-tick-within : (sheet : List ℕ) (state : State) (word : ℕ) → sheetTicked sheet state word .place ≤ 62
-unfolding sheetTicked
-sheet-tick-within sheet state word =
-    answered-within 62 _ (nodeAt sheet) state (tickOn (nodeAt sheet) word state) (word-within 62 _ word (sheet-state-within sheet state))
+show-place : (form : Form) (bytes : List ℕ) (state : State) → state .at < 256 → shownAt form bytes state .verdict .place ≤ 255
+unfolding shownAt
+show-place form bytes state h = answered-within 255 _ _ _ (state-within form bytes state h)
 
 -- ---- the calls for C
+
+bytes-within : (state : List ℕ) → Within 255 (bytesVerdict state)
+unfolding bytesVerdict
+bytes-within state =
+    first-within 255 _
+    (unless-within 255 (eqb (length state) 8) wrong-length 0 (omega arith)
+    also unless-within 255 (zerosStand state) unreachable 0 (omega arith)
+    also none)
+
+on-bytes-within : (state : List ℕ) (answer : Ticked) → answer .verdict .place ≤ 255 → onBytes (bytesVerdict state) answer .verdict .place ≤ 255
+on-bytes-within state answer h =
+    elim (ℕ-discrete (bytesVerdict state .number) 0) [
+      | yes passes ↦ rw (on-bytes-passed (bytesVerdict state) answer passes) h
+      | no refuses ↦ rw (on-bytes-refused (bytesVerdict state) answer refuses) (bytes-within state)
+    ]
+
+pub start-within : (state : List ℕ) → Within 0 (startVerdict state)
+unfolding startVerdict
+start-within state = unless-within 0 (eqb (length state) 8) wrong-length 0 (omega arith)
+
+number-fits : (state : List ℕ) → Bytes state → stateFrom state .at < 256
+unfolding stateFrom
+number-fits state bytes = bytes 0
+
+pub ticked-within : (form : Form) (bytes state : List ℕ) (word : ℕ) → Bytes state → tickedOn form bytes state word .verdict .place ≤ 255
+unfolding tickedOn
+ticked-within form bytes state word fits = on-bytes-within state _ (tick-place form bytes (stateFrom state) word (number-fits state fits))
+
+pub shown-within : (form : Form) (bytes state : List ℕ) → Bytes state → shownOn form bytes state .verdict .place ≤ 255
+unfolding shownOn
+shown-within form bytes state fits = on-bytes-within state _ (show-place form bytes (stateFrom state) (number-fits state fits))
 
 pub normal-within : (image buffer : List ℕ) → Within 79 (normalVerdict image buffer)
 unfolding normalVerdict imageThen
 normal-within image buffer =
     first-within 79 _ (image-within image also unless-within 79 (eqb (length buffer) 80) wrong-length 0 (omega arith) also none)
 
-tick-within : (settings : Settings) (bank : Bank) (frames : List ℕ) → engineTicked settings bank frames .place ≤ 79
+tick-within : (settings : Settings) (bank : Bank) (frames : List ℕ) → engineTicked settings bank frames .verdict .place ≤ 79
 unfolding engineTicked
 tick-within settings bank frames =
     elim (ℕ-discrete (framesVerdict 20 settings bank frames .number) 0) [
@@ -193,17 +224,17 @@ tick-within settings bank frames =
       | no refuses ↦ rw (refused-answer 20 settings bank frames refuses) (frames-within 20 settings bank frames)
     ]
 
-after-within : (settings : Settings) (recording : List ℕ) (n : ℕ) → detectedAfter settings recording n .place ≤ 79
+after-within : (settings : Settings) (recording : List ℕ) (n : ℕ) → detectedAfter settings recording n .verdict .place ≤ 79
 unfolding detectedAfter startDetected
 after-within settings recording zero = omega arith
 after-within settings recording (suc n) =
-    either (eqb (detectedAfter settings recording n .number) 0) _ _ (tick-within settings _ _) (after-within settings recording n)
+    either (eqb (detectedAfter settings recording n .verdict .number) 0) _ _ (tick-within settings _ _) (after-within settings recording n)
   where
-    either : (b : Bool) (x y : Detected) → x .place ≤ 79 → y .place ≤ 79 → cond b x y .place ≤ 79
+    either : (b : Bool) (x y : Detected) → x .verdict .place ≤ 79 → y .verdict .place ≤ 79 → cond b x y .verdict .place ≤ 79
     either true x y p q = p
     either false x y p q = q
 
-pub recorded-within : (image recording : List ℕ) → recorded image recording .place ≤ 79
+pub recorded-within : (image recording : List ℕ) → recorded image recording .verdict .place ≤ 79
 recorded-within image recording =
     elim (ℕ-discrete (imageVerdict image .number) 0) [
       | no refused ↦ rw (recorded-bad-image image recording refused) (image-within image)

@@ -48,9 +48,9 @@ image-unprinted = acceptance.image-unprinted
 pub blank-accepted : imageVerdict blankImage ≡ accepted
 blank-accepted = starred.blank-accepted
 
--- A refused reading has the verdict's number and place, and zero settings.
+-- A refused reading has the verdict, and zero settings.
 pub read-refused : (image : List ℕ) → ¬ (imageVerdict image .number ≡ 0)
-    → reading image ≡ record { number = imageVerdict image .number; place = imageVerdict image .place; settings = zeroSettings }
+    → reading image ≡ record { verdict = imageVerdict image; settings = zeroSettings }
 read-refused = refusals.reading-refused
 
 -- ---- which settings are accepted
@@ -87,7 +87,7 @@ write-refused = refusals.written-refused
 -- Reading what was written gives the settings again, for all accepted settings of ten groups and every buffer of eighty bytes.
 pub write-then-read : (settings : Settings) → length (settings .groups) ≡ 10 → settingsVerdict settings .number ≡ 0
     → (buffer : List ℕ) → length buffer ≡ 80
-    → (writeVerdict settings buffer ≡ accepted) × (reading (written settings buffer) ≡ record { number = 0; place = 0; settings = settings })
+    → (writeVerdict settings buffer ≡ accepted) × (reading (written settings buffer) ≡ record { verdict = accepted; settings = settings })
 write-then-read = round-trip.write-then-read
 
 -- Writing what was read gives the normal bytes, for every accepted image and every buffer of eighty bytes; the writer never refuses it.

@@ -11,7 +11,7 @@ use Rattle.writing.specs.Writing.{settingsVerdict}
 use Rattle.image.specs.declared.settings.Settings.{Settings}
 use Rattle.detectors.specs.Bank.{startBank, bankAfter, bankVerdict, channelAt}
 use Rattle.channels.specs.Frame.{frameAt}
-use Rattle.detectors.specs.Tick.{bankAt, framesVerdict, detectedOver, ticked, engineTicked}
+use Rattle.detectors.specs.Tick.{bankAt, framesVerdict, refusedOn, detectedOver, ticked, engineTicked}
 use Rattle.detectors.specs.declared.bank.Bank.{Bank}
 use Rattle.detector_laws.proofs.Release.{ReleaseLevels}
 use Rattle.detector_laws.proofs.Release as release
@@ -45,13 +45,13 @@ pub state-kept : (settings : Settings) (frame : List ℕ) (bank : Bank) → sett
 state-kept = state.state-kept
 
 -- The bank that an accepted call answers is accepted again.
-pub accepted-again : (n : ℕ) (settings : Settings) (bank : Bank) (frames : List ℕ) → detectedOver n settings bank frames .number ≡ 0
+pub accepted-again : (n : ℕ) (settings : Settings) (bank : Bank) (frames : List ℕ) → detectedOver n settings bank frames .verdict .number ≡ 0
     → bankVerdict settings (detectedOver n settings bank frames .bank) ≡ accepted
 accepted-again = calls.accepted-again
 
 -- So a run from the start is never refused 8.
 pub never-unreachable : (settings : Settings) (frames : List ℕ) (n : ℕ) → settingsVerdict settings .number ≡ 0 → (m : ℕ) (more : List ℕ)
-    → ¬ (detectedOver m settings (bankAt settings frames startBank n) more .number ≡ unreachable)
+    → ¬ (detectedOver m settings (bankAt settings frames startBank n) more .verdict .number ≡ unreachable)
 never-unreachable = calls.never-unreachable
 
 -- On VP and VH every logic field stays zero and false.
@@ -86,17 +86,11 @@ engine-same-bits = calls.engine-ticks-same-bits
 
 -- A call on n frames is accepted exactly when the length, the settings, the bank and all n level bytes are.
 pub accepted-exactly : (n : ℕ) (settings : Settings) (bank : Bank) (frames : List ℕ)
-    → (detectedOver n settings bank frames .number ≡ 0) ↔ Acceptable n settings bank frames
+    → (detectedOver n settings bank frames .verdict .number ≡ 0) ↔ Acceptable n settings bank frames
 accepted-exactly = refusals.accepted-exactly
 
--- A refused call gives back the bank that it received, and zero words.
+-- A refused call gives back the bank that it received, and zero words: that is `refusedOn`.
 pub call-refused : (n : ℕ) (settings : Settings) (bank : Bank) (frames : List ℕ) → ¬ (framesVerdict n settings bank frames .number ≡ 0)
     → detectedOver n settings bank frames
-    ≡ record {
-      number = framesVerdict n settings bank frames .number;
-      place = framesVerdict n settings bank frames .place;
-      bank = bank;
-      faults = 0;
-      warnings = 0;
-    }
+    ≡ refusedOn (framesVerdict n settings bank frames) bank
 call-refused = refusals.refused-answer

@@ -20,8 +20,8 @@ use Rattle.steps.specs.Steps.{stepAt, stepCount}
 use Rattle.sheets.specs.Sheets.{nodeAt, sheetVerdict}
 use Rattle.sheets.proofs.AcceptedSheet.{AcceptedSheet}
 use Rattle.sheets.proofs.AcceptedSheet as sheets
-use Rattle.engine.specs.Engine.{tableStateVerdict, tableTicked, sheetStateVerdict, sheetTicked}
-use Rattle.engine.specs.Runs.{sheetRun, tableRun}
+use Rattle.engine.specs.Engine.{Form, Sheet, Table, sheetStateVerdict, sheetTicked, tableStateVerdict, tableTicked}
+use Rattle.engine.specs.Runs.{runOf, sheetRun, tableRun}
 use Rattle.engine.specs.declared.answer.Ticked.{Ticked}
 use Rattle.translator.specs.Translation.{cellsOf, firstCell, cellTotal, cutAt, tableOf, translationVerdict, translation, translated}
 use Rattle.translator.proofs.CellCounts.{sum}
@@ -34,6 +34,7 @@ use Rattle.translation_laws.proofs.TranslationLaws.{Refused}
 use Rattle.translation_laws.proofs.TranslationLaws as translations
 use Rattle.translation_laws.proofs.TranslatedTable as translated-tables
 use Rattle.translation_laws.proofs.StateKept as state-kept
+use Rattle.translation_laws.proofs.StateKept.{wholeVerdict}
 use Rattle.translation_laws.proofs.Simulation.{tableState}
 use Rattle.translation_laws.proofs.Simulation as simulation
 use Rattle.translation_laws.proofs.ThirdPoint as third
@@ -47,7 +48,7 @@ shown answer = (answer .outputs, answer .step)
 
 -- no answer of a run is refused
 abbrev pub NoneRefused : List Ticked → Type 0
-NoneRefused run = Every (λ answer. answer .number ≡ 0) run
+NoneRefused run = Every (λ answer. answer .verdict .number ≡ 0) run
 
 -- the table in the lent buffer: twelve bytes for each cell, from the first byte on
 abbrev pub lentTable : List ℕ → List ℕ → List ℕ
@@ -55,7 +56,7 @@ lentTable sheet buffer = take (12 * translation sheet buffer .cells) (translated
 
 -- For every accepted sheet, every buffer and every list of words below 1024, the empty list too: the sheet's run and the run of the table that stands in the
 -- lent buffer show the same outputs and the same step at the start and after every tick, and no tick of either is refused.
-pub third-point : (sheet buffer words : List ℕ) → translation sheet buffer .number ≡ 0 → Every (λ word. word < 1024) words
+pub third-point : (sheet buffer words : List ℕ) → translation sheet buffer .verdict .number ≡ 0 → Every (λ word. word < 1024) words
     → (map shown (sheetRun sheet words) ≡ map shown (tableRun (lentTable sheet buffer) words))
     × NoneRefused (sheetRun sheet words)
     × NoneRefused (tableRun (lentTable sheet buffer) words)
@@ -63,11 +64,8 @@ third-point sheet buffer words translates below =
     let run = third.third-point sheet buffer words translates below in (run .same, run .sheet, run .table)
 
 -- Both runs have an answer for the start and one for each word.
-pub sheet-run-length : (sheet words : List ℕ) → length (sheetRun sheet words) ≡ 1 + length words
-sheet-run-length = third.sheet-length
-
-pub table-run-length : (table words : List ℕ) → length (tableRun table words) ≡ 1 + length words
-table-run-length = third.table-length
+pub run-length : (form : Form) (bytes words : List ℕ) → length (runOf form bytes words) ≡ 1 + length words
+run-length = third.run-length
 
 -- Why: `tableState` takes the sheet's states to the table's, `elapsed / 4000` cells past the step's first with the rest elapsed. It takes the start to the start,
 pub start-follows : (sheet : List ℕ) → tableState sheet startState ≡ startState
@@ -91,31 +89,46 @@ step-follows = third.step-same
 
 -- A sheet is translated exactly when it passes the sheet's tests, takes at most 63 cells and has twelve bytes of room for each.
 pub translated-exactly : (sheet buffer : List ℕ)
-    → (translation sheet buffer .number ≡ 0) ↔ (AcceptedSheet sheet × (cellTotal sheet ≤ 63) × (12 * cellTotal sheet ≤ length buffer))
+    → (translation sheet buffer .verdict .number ≡ 0) ↔ (AcceptedSheet sheet × (cellTotal sheet ≤ 63) × (12 * cellTotal sheet ≤ length buffer))
 translated-exactly = translations.translation-accepted
 
 -- Each reason of the paper is a refusal, with no cell; every refusal has one of them, the first test that fails; and it writes no byte.
 pub refused-by : (sheet buffer : List ℕ) {v : Verdict} → Refused sheet (length buffer) v
-    → translation sheet buffer ≡ record { number = v .number; place = v .place; cells = 0 }
+    → translation sheet buffer ≡ record { verdict = v; cells = 0 }
 refused-by = translations.refused-answer
 
-pub refusals : (sheet buffer : List ℕ) → ¬ (translation sheet buffer .number ≡ 0) → Refused sheet (length buffer) (translationVerdict sheet (length buffer))
+pub refusals : (sheet buffer : List ℕ) → ¬ (translation sheet buffer .verdict .number ≡ 0) → Refused sheet (length buffer) (translationVerdict sheet (length buffer))
 unfolding translation
 refusals sheet buffer = translations.shows-refused sheet (length buffer)
 
-pub refused-writes-nothing : (sheet buffer : List ℕ) → ¬ (translation sheet buffer .number ≡ 0) → translated sheet buffer ≡ buffer
+pub refused-writes-nothing : (sheet buffer : List ℕ) → ¬ (translation sheet buffer .verdict .number ≡ 0) → translated sheet buffer ≡ buffer
 refused-writes-nothing = translations.refused-bytes
 
--- The sheet's verdict accepts exactly the sheets that the paper's rules allow.
-pub sheet-accepted : (sheet : List ℕ) → (sheetVerdict sheet .number ≡ 0) ↔ AcceptedSheet sheet
-sheet-accepted = sheets.sheet-accepted
+-- ---- which sheets and tables are accepted
 
--- It refuses by the first test that fails, at the lowest step.
-pub sheet-refused : (sheet : List ℕ) {v : Verdict} → refused-sheets.Refused sheet v → sheetVerdict sheet ≡ v
-sheet-refused = refused-sheets.refused-shows
+-- the paper's conditions on a sheet, and on a table; `wholeVerdict` is what `sheets::sheet_verdict` answers, and `tables::table_verdict`
+abbrev pub Allowed : Form → List ℕ → Type 0
+Allowed Sheet sheet = AcceptedSheet sheet
+Allowed Table table = AcceptedTable table
 
-pub sheet-refusals : (sheet : List ℕ) → ¬ (sheetVerdict sheet .number ≡ 0) → refused-sheets.Refused sheet (sheetVerdict sheet)
-sheet-refusals = refused-sheets.shows-refused
+-- the paper's refusals of it, in the order of the tests, each at the lowest step or cell
+abbrev pub RefusedBy : Form → List ℕ → Verdict → Type 0
+RefusedBy Sheet sheet v = refused-sheets.Refused sheet v
+RefusedBy Table table v = refused-tables.Refused table v
+
+-- The verdict of a whole sheet, or of a whole table, accepts exactly those that the paper's rules allow.
+pub whole-accepted : (form : Form) (bytes : List ℕ) → (wholeVerdict form bytes .number ≡ 0) ↔ Allowed form bytes
+whole-accepted Sheet = sheets.sheet-accepted
+whole-accepted Table = tables.table-accepted
+
+-- It refuses by the first test that fails, at the lowest step or cell.
+pub whole-refused : (form : Form) (bytes : List ℕ) {v : Verdict} → RefusedBy form bytes v → wholeVerdict form bytes ≡ v
+whole-refused Sheet = refused-sheets.refused-shows
+whole-refused Table = refused-tables.refused-shows
+
+pub whole-refusals : (form : Form) (bytes : List ℕ) → ¬ (wholeVerdict form bytes .number ≡ 0) → RefusedBy form bytes (wholeVerdict form bytes)
+whole-refusals Sheet = refused-sheets.shows-refused
+whole-refusals Table = refused-tables.shows-refused
 
 -- ---- the table
 
@@ -124,7 +137,7 @@ pub cell-count : (sheet : List ℕ) → cellTotal sheet ≡ sum (each (λ i. max
 cell-count = counts.total-sum
 
 -- Cell j of step i stands j past the step's first cell, and is the cut that the paper describes.
-pub cells-stand : (sheet buffer : List ℕ) → translation sheet buffer .number ≡ 0 → (i j : ℕ) → i < stepCount sheet → j < cellsOf sheet i
+pub cells-stand : (sheet buffer : List ℕ) → translation sheet buffer .verdict .number ≡ 0 → (i j : ℕ) → i < stepCount sheet → j < cellsOf sheet i
     → cellAt (take (12 * translation sheet buffer .cells) (translated sheet buffer)) (firstCell sheet i + j) ≡ cutAt sheet i j
 cells-stand = translations.written-cell
 
@@ -139,17 +152,6 @@ bytes-length = translations.bytes-length
 pub translated-passes : (sheet : List ℕ) → sheetVerdict sheet .number ≡ 0 → cellTotal sheet ≤ 63 → tableVerdict (tableOf sheet) ≡ accepted
 translated-passes = translated-tables.translated-passes
 
--- The whole-table verdict accepts exactly the tables that the paper's rules allow.
-pub table-accepted : (table : List ℕ) → (tableVerdict table .number ≡ 0) ↔ AcceptedTable table
-table-accepted = tables.table-accepted
-
--- It refuses by the first test that fails, at the lowest cell.
-pub table-refused : (table : List ℕ) {v : Verdict} → refused-tables.Refused table v → tableVerdict table ≡ v
-table-refused = refused-tables.refused-shows
-
-pub table-refusals : (table : List ℕ) → ¬ (tableVerdict table .number ≡ 0) → refused-tables.Refused table (tableVerdict table)
-table-refusals = refused-tables.shows-refused
-
 -- The verdict of one cell accepts exactly the cells of a table of the right length that the paper's rules allow.
 pub cell-accepted : (table : List ℕ) (k : ℕ)
     → (cellVerdict table k .number ≡ 0) ↔ (TableLength table × (k < cellCount table) × AcceptedCell (cellCount table) (cellAt table k))
@@ -157,13 +159,13 @@ cell-accepted = tables.verdict-accepted
 
 -- A table that passes the whole-table verdict refuses no tick from an accepted state with a word below 1024, and the state is accepted again.
 pub table-ticks : (table : List ℕ) → tableVerdict table .number ≡ 0 → (state : State) (word : ℕ) → tableStateVerdict table state .number ≡ 0 → word < 1024
-    → (tableTicked table state word .number ≡ 0) × (tableStateVerdict table (tableTicked table state word .state) ≡ accepted)
-table-ticks = state-kept.table-ticks
+    → (tableTicked table state word .verdict .number ≡ 0) × (tableStateVerdict table (tableTicked table state word .state) ≡ accepted)
+table-ticks = state-kept.ticks Table
 
--- So does an accepted sheet.
+-- So does a sheet, of which a state is accepted only where the whole sheet is.
 pub sheet-ticks : (sheet : List ℕ) (state : State) (word : ℕ) → sheetStateVerdict sheet state .number ≡ 0 → word < 1024
-    → (sheetTicked sheet state word .number ≡ 0) × (sheetStateVerdict sheet (sheetTicked sheet state word .state) ≡ accepted)
-sheet-ticks = state-kept.sheet-ticks
+    → (sheetTicked sheet state word .verdict .number ≡ 0) × (sheetStateVerdict sheet (sheetTicked sheet state word .state) ≡ accepted)
+sheet-ticks sheet state word ok = state-kept.ticks Sheet sheet (state-kept.sheet-whole sheet state ok) state word ok
 
 -- ---- tags, for records of any width
 

@@ -14,7 +14,7 @@ use Rattle.writing.specs.Writing.{settingsVerdict}
 use Rattle.image.specs.declared.settings.Settings.{Settings}
 use Rattle.detectors.specs.Bank.{faultsOf, warningsOf, bankVerdict, startBank}
 use Rattle.channels.specs.Frame.{frameAt}
-use Rattle.detectors.specs.Tick.{bankAt, Words, wordsAt, wordsOver, trace, levelsVerdict, framesVerdict, detectedOver, ticked, engineTicked}
+use Rattle.detectors.specs.Tick.{bankAt, Words, wordsAt, wordsOver, trace, levelsVerdict, framesVerdict, detectedAs, detectedOver, ticked, engineTicked}
 use Rattle.detectors.specs.declared.bank.Bank.{Bank}
 use Rattle.detectors.specs.declared.ticks.Detected.{Detected}
 use Rattle.records.proofs.VerdictLaws.{numberOf}
@@ -24,7 +24,7 @@ use Rattle.detector_laws.proofs.EngineRule.{words-of-last, partAt, engi
 use Rattle.detector_laws.proofs.Refusals.{Acceptable, refused-answer, accepted-answer, answer-number, accepted-exactly, verdict-exactly, accepted-levels, length-shows, levels-show}
 
 -- the bank of an accepted call is accepted again, under the same settings
-pub accepted-again : (n : ℕ) (settings : Settings) (bank : Bank) (frames : List ℕ) → detectedOver n settings bank frames .number ≡ 0
+pub accepted-again : (n : ℕ) (settings : Settings) (bank : Bank) (frames : List ℕ) → detectedOver n settings bank frames .verdict .number ≡ 0
     → bankVerdict settings (detectedOver n settings bank frames .bank) ≡ accepted
 accepted-again n settings bank frames h =
     let good = accepted-exactly n settings bank frames .0 h in
@@ -33,7 +33,7 @@ accepted-again n settings bank frames h =
 
 -- under accepted settings no call on a bank of a run from the start is refused 8, whatever its bytes
 pub never-unreachable : (settings : Settings) (frames : List ℕ) (n : ℕ) → settingsVerdict settings .number ≡ 0 → (m : ℕ) (more : List ℕ)
-    → ¬ (detectedOver m settings (bankAt settings frames startBank n) more .number ≡ unreachable)
+    → ¬ (detectedOver m settings (bankAt settings frames startBank n) more .verdict .number ≡ unreachable)
 never-unreachable settings frames n good m more h =
     let bank = bankAt settings frames startBank n in
     let held = run-accepted settings frames n good in
@@ -101,13 +101,7 @@ one-frame frames i low (suc j) h = let none : ⊥ = omega arith in absurd none
 -- tick i of a run is an accepted call on frame i: it answers the run's next bank and that tick's words
 pub tick-of-run : (settings : Settings) (frames : List ℕ) (bank : Bank) (n : ℕ) → AcceptedRun n settings frames → bankVerdict settings bank ≡ accepted
     → (i : ℕ) → i < n → ticked settings (bankAt settings frames bank i) (frameAt frames i)
-    ≡ record {
-      number = 0;
-      place = 0;
-      bank = bankAt settings frames bank (suc i);
-      faults = wordsAt settings frames bank i .faults;
-      warnings = wordsAt settings frames bank i .warnings;
-    }
+    ≡ detectedAs (bankAt settings frames bank (suc i)) (wordsAt settings frames bank i)
 unfolding ticked bankAt trace each wordsOver wordsAt
 tick-of-run settings frames bank n good held i below =
     let now = bankAt settings frames bank i in
@@ -129,13 +123,7 @@ part-length bytes m e right below = simp (length-take, length-drop) (omega arith
 -- engine tick e of a run is an accepted call on part e: it answers the run's next bank and that engine tick's words
 pub engine-tick-of-run : (settings : Settings) (bytes : List ℕ) (bank : Bank) (m : ℕ) → AcceptedRun (20 * m) settings bytes
     → bankVerdict settings bank ≡ accepted → (e : ℕ) → e < m → engineTicked settings (engineBankAt settings bytes bank e) (partAt bytes e)
-    ≡ record {
-      number = 0;
-      place = 0;
-      bank = engineBankAt settings bytes bank (suc e);
-      faults = engineWordsAt settings bytes bank e .faults;
-      warnings = engineWordsAt settings bytes bank e .warnings;
-    }
+    ≡ detectedAs (engineBankAt settings bytes bank (suc e)) (engineWordsAt settings bytes bank e)
 unfolding engineTicked engineBankAt engineWordsAt
 engine-tick-of-run settings bytes bank m good held e below =
     let now = engineBankAt settings bytes bank e in

@@ -1,22 +1,24 @@
 -- What a call on n frames answers, when it accepts, and in which order it tests; n is 1 for the tick and 20 for the engine tick. Assumes nothing.
-use Prim.Native.Nat.{ℕ, zero, suc, _*_, _<_}
+use Prim.Native.Nat.{ℕ, _*_, _<_}
 use mathlib.Core.Logic.{_↔_}
-use mathlib.Core.Path.{_≡_, refl, ap, sym, _∙_}
+use mathlib.Core.Path.{_≡_, ap, sym, _∙_}
 use mathlib.Core.List.{List, [], _∷_}
 use native.Mathlib.Nat.{suc-ne-zero}
 use native.Mathlib.Decide.{ℕ-discrete}
-use borrow.Author.Tests.{eqb-true, eq-eqb, ne-eqb, ltb-true, lt-ltb}
+use borrow.Author.Tests.{eq-eqb, ne-eqb, ltb-true, lt-ltb}
 use lib.Dec.{eqb}
 use lib.ListN.{length, getD}
 use Rattle.records.specs.Numbers.{wrong-length, bad-word}
 use Rattle.records.specs.Verdicts.{accepted, refusedUnless, orElse, firstRefusal}
 use Rattle.records.specs.declared.verdict.Verdict.{Verdict}
-use Rattle.records.proofs.VerdictLaws.{orElse-pass, orElse-hit, first-accepted, Passes, passes-accepted, accepted-passes, FirstAt, first-shows, shows-first}
+use Rattle.records.proofs.VerdictLaws.{orElse-pass, orElse-hit, first-accepted, FirstAt, first-shows, shows-first}
+use Rattle.records.proofs.Every.{none, _also_}
+use Rattle.records.proofs.TestLaws.{eq-test, unless-passed, unless-passes, all-zero, all-pass}
 use Rattle.writing.specs.Writing.{settingsVerdict}
 use Rattle.image.specs.declared.settings.Settings.{Settings}
 use Rattle.detectors.specs.Bank.{bankVerdict}
 use Rattle.channels.specs.Frame.{frameAt}
-use Rattle.detectors.specs.Tick.{bankAt, wordsOver, trace, levelsInRange, levelsVerdict, framesVerdict, detected, detectedOver}
+use Rattle.detectors.specs.Tick.{bankAt, wordsOver, trace, levelsInRange, levelsVerdict, framesVerdict, detectedAs, refusedOn, detected, detectedOver}
 use Rattle.detectors.specs.declared.bank.Bank.{Bank}
 use Rattle.detectors.specs.declared.ticks.Detected.{Detected}
 use Rattle.detector_laws.proofs.BankRange.{bank-zero}
@@ -61,78 +63,61 @@ tests n settings bank frames =
 
 module _ (n : ℕ) (settings : Settings) (bank : Bank) (frames : List ℕ) where
   -- ---- the answers
-  -- a refused call gives back the bank it received and zero words, with the verdict's number and place
+  -- a refused call gives back the bank it received and zero words, with the verdict
   pub refused-answer : ¬ (framesVerdict n settings bank frames .number ≡ 0)
-      → detectedOver n settings bank frames
-      ≡ record {
-        number = framesVerdict n settings bank frames .number;
-        place = framesVerdict n settings bank frames .place;
-        bank = bank;
-        faults = 0;
-        warnings = 0;
-      }
+      → detectedOver n settings bank frames ≡ refusedOn (framesVerdict n settings bank frames) bank
   unfolding detectedOver detected
   refused-answer h = rw (ne-eqb _ _ h)
 
   -- an accepted call answers number 0 at place 0, the bank after the frames, and the words over them
   pub accepted-answer : framesVerdict n settings bank frames .number ≡ 0
-      → detectedOver n settings bank frames
-      ≡ record {
-        number = 0;
-        place = 0;
-        bank = bankAt settings frames bank n;
-        faults = wordsOver (trace settings frames bank n) .faults;
-        warnings = wordsOver (trace settings frames bank n) .warnings;
-      }
+      → detectedOver n settings bank frames ≡ detectedAs (bankAt settings frames bank n) (wordsOver (trace settings frames bank n))
   unfolding detectedOver detected
   accepted-answer h = rw (eq-eqb _ _ h)
 
-  -- the answer has the verdict's number
-  pub answer-number : detectedOver n settings bank frames .number ≡ framesVerdict n settings bank frames .number
-  answer-number =
+  -- the answer has the verdict
+  pub answer-verdict : detectedOver n settings bank frames .verdict ≡ framesVerdict n settings bank frames
+  unfolding framesVerdict
+  answer-verdict =
       elim (ℕ-discrete (framesVerdict n settings bank frames .number) 0) [
-        | yes h ↦ ap (λ (d : Detected). d .number) (accepted-answer h) ∙ sym h
-        | no h ↦ ap (λ (d : Detected). d .number) (refused-answer h)
+        | yes h ↦ ap (λ (d : Detected). d .verdict) (accepted-answer h) ∙ sym (first-accepted (tests n settings bank frames) h)
+        | no h ↦ ap (λ (d : Detected). d .verdict) (refused-answer h)
       ]
 
-  -- the answer has the verdict's place
-  pub answer-place : detectedOver n settings bank frames .place ≡ framesVerdict n settings bank frames .place
-  unfolding framesVerdict
-  answer-place =
-      elim (ℕ-discrete (framesVerdict n settings bank frames .number) 0) [
-        | yes h ↦ ap (λ (d : Detected). d .place) (accepted-answer h)
-            ∙ ap (λ (v : Verdict). v .place) (sym (first-accepted (tests n settings bank frames) h))
-        | no h ↦ ap (λ (d : Detected). d .place) (refused-answer h)
-      ]
+  -- and so its number
+  pub answer-number : detectedOver n settings bank frames .verdict .number ≡ framesVerdict n settings bank frames .number
+  answer-number = ap numberOf answer-verdict
 
   -- any two answers that the promise allows are equal
   pub one-answer : (r s : Detected) → r ≡ detectedOver n settings bank frames → s ≡ detectedOver n settings bank frames → r ≡ s
   one-answer r s p q = p ∙ sym q
 
   -- ---- acceptance
-  all-pass : Acceptable n settings bank frames → Passes (tests n settings bank frames)
-  all-pass h zero = rw (eq-eqb _ _ (h .length-right))
-  all-pass h (suc zero) = h .settings-accepted
-  all-pass h (suc (suc zero)) = ap numberOf (h .bank-accepted)
-  all-pass h (suc (suc (suc zero))) = ap numberOf (levels-accepted n frames (h .levels-low))
-  all-pass h (suc (suc (suc (suc j)))) = refl
-
-  passing : Passes (tests n settings bank frames) → Acceptable n settings bank frames
-  passing h =
-      record {
-        length-right = eqb-true _ _ (unless-zero (eqb (length frames) (11 * n)) wrong-length 0 (suc-ne-zero 0) (h 0));
-        settings-accepted = h 1;
-        bank-accepted = bank-zero settings bank (h 2);
-        levels-low = accepted-levels n frames (h 3);
-      }
-
   -- the verdict is number 0 exactly when the input is acceptable
   pub verdict-exactly : (framesVerdict n settings bank frames .number ≡ 0) ↔ Acceptable n settings bank frames
   unfolding framesVerdict
-  verdict-exactly = (λ h. passing (accepted-passes _ h), λ h. ap numberOf (passes-accepted _ (all-pass h)))
+  verdict-exactly = (
+    λ e.
+        elim (all-pass _ e) [
+          | right also good also held also low also none ↦
+              record {
+                length-right = unless-passed (eq-test _ _) wrong-length 0 (suc-ne-zero 0) right;
+                settings-accepted = good;
+                bank-accepted = bank-zero settings bank held;
+                levels-low = accepted-levels n frames low;
+              }
+        ],
+    λ h.
+        all-zero _ (
+        unless-passes (eq-test _ _) wrong-length 0 (h .length-right) also
+        h .settings-accepted also
+        ap numberOf (h .bank-accepted) also
+        ap numberOf (levels-accepted n frames (h .levels-low)) also
+        none),
+  )
 
   -- a call is accepted exactly when its input is acceptable
-  pub accepted-exactly : (detectedOver n settings bank frames .number ≡ 0) ↔ Acceptable n settings bank frames
+  pub accepted-exactly : (detectedOver n settings bank frames .verdict .number ≡ 0) ↔ Acceptable n settings bank frames
   accepted-exactly = (λ h. verdict-exactly .0 (sym answer-number ∙ h), λ h. answer-number ∙ verdict-exactly .1 h)
 
   -- ---- "Tests run in the order 1, 4, 8, 9"

@@ -1,14 +1,12 @@
 -- Laws of ten channels. Assumes nothing.
 use Prim.Native.Nat.{ℕ}
 use mathlib.Core.Path.{_≡_}
+use mathlib.Core.Bool.{Bool}
 use mathlib.Core.List.{List}
 use lib.ListN.{length, length-map}
 use mir.Val.{Val}
 use denote.Laws.{Is as Owned}
 use denote.Struct.Declared.{row}
-use Rattle.records.specs.Numbers.{unreachable}
-use Rattle.records.specs.Verdicts.{refusedUnless}
-use Rattle.records.specs.declared.verdict.Verdict.{Verdict}
 use Rattle.image.specs.Reading.{groupAt}
 use Rattle.image.specs.declared.settings.Settings.{Settings}
 use Rattle.detectors.specs.Bank.{channelAt, inRange}
@@ -19,6 +17,6 @@ use Rattle.detectors.proofs.bank.Bank.{the-type}
 pub ten-channels : (bank : Bank) (values : List Val) → Owned (row the-type) bank values → length (bank .channels) ≡ 10
 ten-channels bank values owned = simp length-map at (owned .1 .1 .0 .1 .0 .1)
 
--- ---- number 8: the test of channel k
-abbrev pub channelTest : Settings → Bank → ℕ → Verdict
-channelTest settings bank k = refusedUnless (inRange k (groupAt settings k) (channelAt bank k)) unreachable k
+-- ---- number 8: whether channel k is in range
+abbrev pub channelFlag : Settings → Bank → ℕ → Bool
+channelFlag settings bank k = inRange k (groupAt settings k) (channelAt bank k)

@@ -5,26 +5,24 @@ use mathlib.Core.Bool.{Bool}
 use mathlib.Core.List.{List, _++_}
 use native.Mathlib.Nat.{zero-add, not-suc-le-zero}
 use native.Mathlib.Omega.{arith}
-use borrow.Author.Tests.{eq-eqb, ne-eqb}
+use borrow.Author.Tests.{ne-eqb}
 use lib.Dec.{ltb}
 use lib.ListN.{length, getD, drop}
 use lib.Seq.{getD-take, getD-drop}
 use Rattle.records.specs.Lists.{each}
-use Rattle.records.specs.Numbers.{wrong-length, bad-word}
-use Rattle.records.specs.Verdicts.{accepted, refusedUnless, orElse, firstRefusal}
+use Rattle.records.specs.Verdicts.{accepted}
 use Rattle.records.specs.declared.verdict.Verdict.{Verdict}
 use Rattle.records.specs.Words.{wordOf}
 use Rattle.records.proofs.ListLaws.{each-at, each-length, each-ext, fill-all}
-use Rattle.records.proofs.VerdictLaws.{orElse-pass, orElse-end, first-accepted}
+use Rattle.records.proofs.VerdictLaws.{first-accepted}
 use Rattle.records.proofs.WordLaws.{wordOf-ext}
 use Rattle.image.specs.Reading.{groupAt}
-use Rattle.writing.specs.Writing.{settingsVerdict}
 use Rattle.image.specs.declared.settings.Group.{Group}
 use Rattle.image.specs.declared.settings.Settings.{Settings}
 use Rattle.channels.specs.Channel.{channelAfter, faultBit, warningBit, startChannel}
 use Rattle.channels.specs.Frame.{frameAt, sampleAt}
-use Rattle.detectors.specs.Bank.{channelAt, nextChannel, bankAfter, faultsOf, warningsOf, bankVerdict}
-use Rattle.detectors.specs.Tick.{bankAt, wordsAt, trace, levelsInRange, noWords, wordsOver, advancedOver, levelsVerdict, framesVerdict, detected, detectedOver}
+use Rattle.detectors.specs.Bank.{channelAt, nextChannel, bankAfter, faultsOf, warningsOf}
+use Rattle.detectors.specs.Tick.{bankAt, wordsAt, trace, levelsInRange, noWords, wordsOver, advancedOver, framesVerdict, refusedOn, detected, detectedOver}
 use Rattle.channels.specs.Run.{channelOver, ranOver}
 use Rattle.detectors.specs.declared.bank.Bank.{Bank}
 use Rattle.detectors.specs.declared.bank.Advanced.{Advanced}
@@ -33,16 +31,11 @@ use Rattle.channels.specs.declared.channel.Channel.{Channel}
 use Rattle.channels.specs.declared.channel.Ran.{Ran}
 
 -- ---- a frame
--- the test of its level byte, and the same as the code makes it
-abbrev pub levelsTest : List ℕ → ℕ → Verdict
-levelsTest frames i = refusedUnless (levelsInRange frames i) bad-word 0
-
-pub levels-test : (frames : List ℕ) (i : ℕ) (v : Verdict) → v ≡ refusedUnless (ltb (getD frames (11 * i + 10) 0) 32) bad-word 0 → v ≡ levelsTest frames i
+-- the test of its level byte, as the code reads it
+pub levels-read : (frames : List ℕ) (i : ℕ) → levelsInRange frames i ≡ ltb (getD frames (11 * i + 10) 0) 32
 unfolding levelsInRange frameAt
-levels-test frames i v is =
-    is
-    ∙ ap (λ (levels : ℕ). refusedUnless (ltb levels 32) bad-word 0)
-    (sym (getD-take 11 (drop (11 * i) frames) 10 0 (omega arith) ∙ getD-drop (11 * i) frames 10 0))
+levels-read frames i =
+    ap (λ (levels : ℕ). ltb levels 32) (getD-take 11 (drop (11 * i) frames) 10 0 (omega arith) ∙ getD-drop (11 * i) frames 10 0)
 
 -- ---- the bank: each channel goes by itself
 module _ (settings : Settings) (frames : List ℕ) (bank : Bank) where
@@ -100,32 +93,15 @@ module _ (settings : Settings) (frames : List ℕ) (bank : Bank) where
   ran-all n k after faults warnings h all ten channels fault warning =
       rw (words-last n h, word-alone faultBit n h, word-alone warningBit n h, bank-of-alone n h, channels, fault, warning, all, fill-all (λ j. alone j n) (bank .channels) 10 ten)
 
--- ---- the tests in their order
-module _ (n : ℕ) (settings : Settings) (bank : Bank) (frames : List ℕ) where
-  pub refuses-length : (length frames ≡ 11 * n → ⊥) → framesVerdict n settings bank frames ≡ record { number = wrong-length; place = 0 }
-  unfolding framesVerdict firstRefusal orElse
-  refuses-length h = rw (ne-eqb (length frames) (11 * n) h)
+-- ---- the answers, from the verdict that the code holds
+module _ (n : ℕ) (settings : Settings) (bank : Bank) (frames : List ℕ) (v : Verdict) (is : v ≡ framesVerdict n settings bank frames) where
+  pub detected-refused : (v .number ≡ 0 → ⊥) → refusedOn v bank ≡ detectedOver n settings bank frames
+  unfolding detectedOver detected
+  detected-refused h = rw (← is, ne-eqb (v .number) 0 h)
 
-  levels-last : orElse (levelsVerdict n frames) accepted ≡ levelsVerdict n frames
-  unfolding levelsVerdict
-  levels-last = orElse-end _ (first-accepted _)
-
-  pub passes-length : length frames ≡ 11 * n → framesVerdict n settings bank frames ≡ orElse (settingsVerdict settings) (orElse (bankVerdict settings bank) (levelsVerdict n frames))
-  unfolding framesVerdict firstRefusal
-  passes-length h =
-      orElse-pass _ _ (rw (eq-eqb (length frames) (11 * n) h))
-      ∙ ap (λ (v : Verdict). orElse (settingsVerdict settings) (orElse (bankVerdict settings bank) v)) levels-last
-
-  -- ---- the answers, from the verdict that the code holds
-  module _ (v : Verdict) (is : v ≡ framesVerdict n settings bank frames) where
-    pub detected-refused : (v .number ≡ 0 → ⊥)
-        → _≡_ {A = Detected} (record { number = v .number; place = v .place; bank = bank; faults = 0; warnings = 0 }) (detectedOver n settings bank frames)
-    unfolding detectedOver detected
-    detected-refused h = rw (← is, ne-eqb (v .number) 0 h)
-
-    pub detected-accepted : (a : Advanced) → v .number ≡ 0 → a ≡ advancedOver n settings bank frames
-        → _≡_ {A = Detected} (record { number = v .number; place = v .place; bank = a .bank; faults = a .faults; warnings = a .warnings }) (detectedOver n settings bank frames)
-    unfolding detectedOver detected advancedOver framesVerdict
-    detected-accepted a h moved =
-        let passed : framesVerdict n settings bank frames ≡ accepted = first-accepted _ (sym (ap (λ (w : Verdict). w .number) is) ∙ h) in
-        rw (moved, is, passed)
+  pub detected-accepted : (a : Advanced) → v .number ≡ 0 → a ≡ advancedOver n settings bank frames
+      → _≡_ {A = Detected} (record { verdict = v; bank = a .bank; faults = a .faults; warnings = a .warnings }) (detectedOver n settings bank frames)
+  unfolding detectedOver detected advancedOver framesVerdict
+  detected-accepted a h moved =
+      let passed : framesVerdict n settings bank frames ≡ accepted = first-accepted _ (sym (ap (λ (w : Verdict). w .number) is) ∙ h) in
+      rw (moved, is, passed)

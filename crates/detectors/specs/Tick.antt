@@ -6,7 +6,7 @@ use lib.Dec.{ltb, eqb}
 use lib.ListN.{length, getD}
 use Rattle.records.specs.Lists.{each}
 use Rattle.records.specs.Numbers.{wrong-length, bad-word}
-use Rattle.records.specs.Verdicts.{refusedUnless, firstRefusal}
+use Rattle.records.specs.Verdicts.{accepted, refusedUnless, firstRefusal}
 use Rattle.records.specs.declared.verdict.Verdict.{Verdict}
 use Rattle.writing.specs.Writing.{settingsVerdict}
 use Rattle.image.specs.declared.settings.Settings.{Settings}
@@ -65,12 +65,17 @@ framesVerdict n settings bank frames =
 abbrev pub noWords : Words
 noWords = record { faults = 0; warnings = 0 }
 
--- an answer from the verdict: refused, the bank as received and zero words
+-- number 0 at place 0, with a bank and its words
+abbrev pub detectedAs : Bank → Words → Detected
+detectedAs bank words = record { verdict = accepted; bank = bank; faults = words .faults; warnings = words .warnings }
+
+-- a refusal "gives back the state it received"; zero "stands in every other field"
+abbrev pub refusedOn : Verdict → Bank → Detected
+refusedOn verdict bank = record { verdict = verdict; bank = bank; faults = 0; warnings = 0 }
+
+-- the verdict decides between the two
 unfoldable pub detected : Verdict → Bank → Bank → Words → Detected
-detected verdict received bank words =
-    cond (eqb (verdict .number) 0)
-    (record { number = 0; place = 0; bank = bank; faults = words .faults; warnings = words .warnings })
-    (record { number = verdict .number; place = verdict .place; bank = received; faults = 0; warnings = 0 })
+detected verdict received bank words = cond (eqb (verdict .number) 0) (detectedAs bank words) (refusedOn verdict received)
 
 -- "Its fault and warning words ... are those of the last of the twenty": of the trace of one frame they are that frame's
 unfoldable pub wordsOver : List Words → Words

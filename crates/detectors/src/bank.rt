@@ -6,7 +6,8 @@ use image::Logic;
 use image::Settings;
 use records::UNREACHABLE;
 use records::Verdict;
-use records::refuse_unless;
+use records::accepted;
+use records::refused;
 use words::bit;
 ghost use Prim.Native.Nat.{_<_, _≤_};
 ghost use mathlib.Core.Path.{_≡_};
@@ -53,15 +54,13 @@ pub(crate) fn advance(settings: Settings, bank: Bank, frames: &[u8], n: usize) -
     let mut after = bank;
     let mut faults = 0;
     let mut warnings = 0;
-    let mut k = 0;
-    while k < 10 {
+    for k in 0..10 {
         let channel = channel_at(bank, k);
         let ran = channel.run(group_at(settings, k), frames, n, k);
         let next = ran.channel;
         after.channels[k] = next;
         faults += bit(ran.fault, k);
         warnings += bit(ran.warning, k);
-        k += 1;
     }
     Advanced {
         bank: after,
@@ -74,16 +73,12 @@ pub(crate) fn advance(settings: Settings, bank: Bank, frames: &[u8], n: usize) -
 pub(crate) fn bank_verdict(settings: Settings, bank: Bank) -> Verdict
     ensures { λ r. ⌜ r ≡ bankVerdict settings bank ⌝ }
 {
-    let mut k = 0;
-    while k < 10 {
-        let holds = in_range(k, group_at(settings, k), channel_at(bank, k));
-        let verdict = refuse_unless(holds, UNREACHABLE, k);
-        if verdict.number != 0 {
-            return verdict;
+    for k in 0..10 {
+        if !in_range(k, group_at(settings, k), channel_at(bank, k)) {
+            return refused(UNREACHABLE, k);
         }
-        k += 1;
     }
-    refuse_unless(true, 0, 0)
+    accepted()
 }
 
 fn group_at(settings: Settings, k: usize) -> Group

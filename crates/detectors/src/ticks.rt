@@ -5,8 +5,8 @@ use image::Settings;
 use records::BAD_WORD;
 use records::Verdict;
 use records::WRONG_LENGTH;
-use records::or_else;
-use records::refuse_unless;
+use records::accepted;
+use records::refused;
 ghost use Prim.Native.Nat.{_≤_, _*_};
 ghost use mathlib.Core.Path.{_≡_};
 ghost use lib.ListN.{length};
@@ -15,8 +15,7 @@ ghost use Rattle.detectors.specs.Tick.{framesVerdict, levelsVerdict, det
 // The bank after the call and the words, with number 0; or the refusal, with the bank as received
 // and zero words.
 pub struct Detected {
-    pub number: u8,
-    pub place: usize,
+    pub verdict: Verdict,
     pub bank: Bank,
     pub faults: u16,
     pub warnings: u16,
@@ -42,12 +41,9 @@ fn detect(settings: Settings, bank: Bank, frames: &[u8], n: usize) -> Detected
     ensures { λ r. ⌜ r ≡ detectedOver n settings bank (now (frames .entry)) ⌝ }
 {
     let verdict = frames_verdict(settings, bank, frames, n);
-    let number = verdict.number;
-    let place = verdict.place;
-    if number != 0 {
+    if verdict.number != 0 {
         return Detected {
-            number,
-            place,
+            verdict,
             bank,
             faults: 0,
             warnings: 0,
@@ -56,8 +52,7 @@ fn detect(settings: Settings, bank: Bank, frames: &[u8], n: usize) -> Detected
     let advanced = bank::advance(settings, bank, frames, n);
     let bank = advanced.bank;
     Detected {
-        number,
-        place,
+        verdict,
         bank,
         faults: advanced.faults,
         warnings: advanced.warnings,
@@ -70,12 +65,12 @@ fn frames_verdict(settings: Settings, bank: Bank, frames: &[u8], n: usize) -> Ve
     ensures { λ r. ⌜ r ≡ framesVerdict n settings bank (now (frames .entry)) ⌝ }
 {
     if frames.len() != 11 * n {
-        return refuse_unless(false, WRONG_LENGTH, 0);
+        return refused(WRONG_LENGTH, 0);
     }
-    let levels = levels_verdict(frames, n);
-    let state = bank::bank_verdict(settings, bank);
     let means = writing::settings_verdict(settings);
-    or_else(means, or_else(state, levels))
+    let state = bank::bank_verdict(settings, bank);
+    let levels = levels_verdict(frames, n);
+    means.then(state).then(levels)
 }
 
 fn levels_verdict(frames: &[u8], n: usize) -> Verdict
@@ -83,13 +78,10 @@ fn levels_verdict(frames: &[u8], n: usize) -> Verdict
     requires { ⌜ length (now frames) ≡ 11 * n ⌝ }
     ensures { λ r. ⌜ r ≡ levelsVerdict n (now (frames .entry)) ⌝ }
 {
-    let mut i = 0;
-    while i < n {
-        let verdict = refuse_unless(frames[11 * i + 10] < 32, BAD_WORD, 0);
-        if verdict.number != 0 {
-            return verdict;
+    for i in 0..n {
+        if frames[11 * i + 10] >= 32 {
+            return refused(BAD_WORD, 0);
         }
-        i += 1;
     }
-    refuse_unless(true, 0, 0)
+    accepted()
 }

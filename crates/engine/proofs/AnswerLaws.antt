@@ -1,54 +1,46 @@
--- Laws of the engine's answers, for sheets and tables alike: what each return of `tick` and `show` shows. Assumes nothing.
-use Prim.Native.Nat.{ℕ, _≤_, _<_}
+-- Laws of the engine's answers: the tests of the state, the word, the tick, and what shows, for either form. Assumes nothing.
+use Prim.Native.Nat.{ℕ}
 use mathlib.Core.Path.{_≡_, refl, ap, ap₂, sym, _∙_}
-use mathlib.Core.Bool.{false}
-use mathlib.Core.List.{[], _∷_}
+use mathlib.Core.List.{List, [], _∷_}
 use native.Mathlib.Omega.{arith}
-use borrow.Author.Tests.{eq-eqb, ne-eqb, lt-ltb, le-ltb}
-use Rattle.records.specs.Verdicts.{refusedUnless, firstRefusal}
+use lib.Dec.{ltb}
+use Rattle.records.specs.Verdicts.{refusedUnless, orElse, firstRefusal}
 use Rattle.records.specs.declared.verdict.Verdict.{Verdict}
-use Rattle.records.proofs.VerdictLaws.{first-none}
-use Rattle.records.proofs.ReturnLaws.{same-number, verdict-refuses, verdict-passes, test-refuses, test-passes}
+use Rattle.records.proofs.VerdictLaws.{first-tested, first-last}
 use Rattle.machine.specs.Fields.{wordInRange}
-use Rattle.machine.specs.Machine.{after, tickOn}
 use Rattle.machine.specs.declared.node.Node.{Node}
+use Rattle.machine.specs.declared.node.Standing.{Standing}
 use Rattle.machine.specs.declared.state.State.{State}
-use Rattle.engine.specs.Engine.{wordVerdict, shownAs, refusedWith, answered}
 use Rattle.engine.specs.declared.answer.Ticked.{Ticked}
+use Rattle.engine.specs.declared.ticking.Went.{Went}
+use Rattle.engine.specs.Engine.{Form, nodesOf, standingAt, stateTested, stateVerdict, wordVerdict, wentFrom, answeredAt, ticked, shownAt}
 
--- ---- an answer by its verdict
-module _ (nodes : ℕ → Node) (received next : State) {r : Ticked} where
-  pub answer-refused : {u v : Verdict} → u ≡ v → (u .number ≡ 0 → ⊥) → r ≡ refusedWith u received → r ≡ answered v nodes received next
-  unfolding answered
-  answer-refused {u} {v} e h a =
-      rw (ne-eqb (v .number) 0 (λ z. h (same-number (sym e) z))) (a ∙ ap (λ (x : Verdict). refusedWith x received) e)
+-- the word is the last test
+pub word-last : {r : Verdict} (tested : Verdict) (word : ℕ) → r ≡ orElse tested (refusedUnless (ltb word 1024) 9 0)
+    → r ≡ firstRefusal (tested ∷ wordVerdict word ∷ [])
+unfolding wordVerdict wordInRange
+word-last tested word r = first-tested _ r refl (sym (first-last (ltb word 1024) 9 0 (λ z. omega arith)))
 
-  pub answer-shown : {u v : Verdict} {to : State} {node : Node} → u ≡ v → u .number ≡ 0
-      → to ≡ next → node ≡ nodes (to .at) → r ≡ shownAs to node → r ≡ answered v nodes received next
-  unfolding answered
-  answer-shown {u} {v} e h s n a =
-      rw (eq-eqb (v .number) 0 (same-number e h))
-      (a ∙ ap₂ shownAs s (n ∙ ap (λ (x : State). nodes (x .at)) s))
+-- ---- a call from its parts: standing at the node, the state's tests, the tick, what shows
+module _ (form : Form) (bytes : List ℕ) (state : State) {stood : Standing} {tested : Verdict}
+    (s : stood ≡ standingAt form bytes (state .at)) (t : tested ≡ stateTested (stood .verdict) (stood .node) state) where
+  tests : tested ≡ stateVerdict form bytes state
+  unfolding stateVerdict
+  tests = t ∙ ap (λ (x : Standing). stateTested (x .verdict) (x .node) state) s
 
--- ---- a tick: the tests of the state, then the word
-abbrev pub ticked : (ℕ → Node) → State → ℕ → Verdict → Ticked
-ticked nodes state word v = answered (firstRefusal (v ∷ wordVerdict word ∷ [])) nodes state (tickOn nodes word state)
+  here : stood .node ≡ nodesOf form bytes (state .at)
+  here = ap (λ (x : Standing). x .node) s
 
-module _ (nodes : ℕ → Node) (state : State) (word : ℕ) {u v : Verdict} {r : Ticked} (told : u ≡ v) where
-  pub tick-refused : (u .number ≡ 0 → ⊥) → r ≡ refusedWith u state → r ≡ ticked nodes state word v
-  tick-refused h a = answer-refused nodes state _ (verdict-refuses _ told h) h a
+  pub shown-by : {r : Ticked} → r ≡ answeredAt tested state (stood .node) → r ≡ shownAt form bytes state
+  unfolding shownAt
+  shown-by r = r ∙ ap₂ (λ (v : Verdict) (n : Node). answeredAt v state n) tests here
 
-  pub tick-bad-word : {w : Verdict} → u .number ≡ 0 → 1024 ≤ word → w ≡ refusedUnless false 9 0 → r ≡ refusedWith w state → r ≡ ticked nodes state word v
-  unfolding wordVerdict wordInRange
-  tick-bad-word h bad e a =
-      answer-refused nodes state _
-      (verdict-passes _ told h (test-refuses _ (wordInRange word) 9 0 (λ z. omega arith) (le-ltb word 1024 bad) e))
-      (λ z. omega (arith, same-number e z)) a
-
-  pub tick-taken : {here node : Node} {next : State} → u .number ≡ 0 → word < 1024
-      → here ≡ nodes (state .at) → next ≡ after here word state → node ≡ nodes (next .at) → r ≡ shownAs next node → r ≡ ticked nodes state word v
-  unfolding wordVerdict wordInRange tickOn
-  tick-taken h good e s n a =
-      answer-shown nodes state _
-      (verdict-passes _ told h (test-passes _ (wordInRange word) 9 0 (lt-ltb word 1024 good) (first-none refl)))
-      refl (s ∙ ap (λ (x : Node). after x word state) e) n a
+  pub ticked-by : (word : ℕ) {went : Went} {node : Node} {r : Ticked} → went ≡ wentFrom tested (stood .node) state word
+      → node ≡ nodesOf form bytes (went .taken .state .at) → r ≡ answeredAt (went .verdict) (went .taken .state) node
+      → r ≡ ticked form bytes state word
+  unfolding ticked
+  ticked-by word w n r =
+      r
+      ∙ ap (answeredAt _ _) n
+      ∙ ap (λ (x : Went). answeredAt (x .verdict) (x .taken .state) (nodesOf form bytes (x .taken .state .at)))
+      (w ∙ ap₂ (λ (v : Verdict) (x : Node). wentFrom v x state word) tests here)

@@ -1,9 +1,8 @@
 -- The tables of source 004 as the paper prints them: from a code to its meaning, and from a meaning to its lowest code. Assumes nothing.
-use Prim.Native.Nat.{ℕ, zero, suc, _+_}
-use mathlib.Core.Bool.{Bool, cond, _&&_, _||_, not}
+use Prim.Native.Nat.{ℕ, suc}
+use mathlib.Core.Bool.{Bool, cond, _||_, not}
 use mathlib.Core.List.{List, [], _∷_}
 use lib.Dec.{ltb, eqb}
-use lib.ListN.{getD}
 use Rattle.records.specs.Numbers.{accepted-number, out-of-range}
 use Rattle.image.specs.Groups.{isVP, isVH, isVX}
 use Rattle.image.specs.declared.codes.Code.{Code}

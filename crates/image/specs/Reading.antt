@@ -135,7 +135,6 @@ groupAt settings k = getD (settings .groups) k (zeroGroup k)
 unfoldable pub reading : List ℕ → Reading
 reading image =
     record {
-      number = imageVerdict image .number;
-      place = imageVerdict image .place;
+      verdict = imageVerdict image;
       settings = cond (eqb (imageVerdict image .number) 0) (settingsOf image) zeroSettings;
     }

@@ -1,8 +1,8 @@
 use crate::settings::Settings;
+use records::Verdict;
 
-// What the reader answers: the settings, with number 0; or the refusal, with the zero settings.
+// What the reader answers: the settings of an accepted image; or the refusal, with the zero settings.
 pub struct Reading {
-    pub number: u8,
-    pub place: usize,
+    pub verdict: Verdict,
     pub settings: Settings,
 }

@@ -1,38 +1,32 @@
 -- What a call answers and leaves: a refusal has zeros and writes nothing. Assumes nothing.
 use Prim.Native.Nat.{ℕ}
 use mathlib.Core.Path.{_≡_, ap, sym, _∙_}
-use mathlib.Core.Bool.{cond}
 use mathlib.Core.List.{List}
 use native.Mathlib.Decide.{ℕ-discrete}
 use native.Mathlib.Omega.{arith}
 use borrow.Author.Tests.{eq-eqb, ne-eqb}
 use lib.ListN.{length}
-use lib.Dec.{eqb}
 use Rattle.records.proofs.ListLaws.{each-length}
+use Rattle.records.specs.Verdicts.{accepted}
 use Rattle.image.specs.Codes.{codeValue}
 use Rattle.image.specs.Reading.{imageVerdict, settingsOf, zeroSettings, reading}
 use Rattle.writing.specs.Writing.{settingByte, writeVerdict, imageOf, written}
 use Rattle.image.specs.declared.settings.Settings.{Settings}
 use Rattle.records.proofs.VerdictLaws.{numberOf}
-use Rattle.image_laws.proofs.Acceptance.{image-zero, write-wrong-length}
+use Rattle.image_laws.proofs.AcceptanceLaws.{image-zero}
+use Rattle.image_laws.proofs.Acceptance.{write-wrong-length}
 
 -- ---- the reader's answer
 -- an accepted image: number 0, place 0 and its settings
-pub reading-accepted : (image : List ℕ) → imageVerdict image .number ≡ 0
-    → reading image ≡ record { number = 0; place = 0; settings = settingsOf image }
+pub reading-accepted : (image : List ℕ) → imageVerdict image .number ≡ 0 → reading image ≡ record { verdict = accepted; settings = settingsOf image }
 unfolding reading
-reading-accepted image pass =
-    let zero = image-zero image pass in
-    let whole : cond (eqb (imageVerdict image .number) 0) (settingsOf image) zeroSettings ≡ settingsOf image = rw (eq-eqb _ _ pass) in
-    λ i. record { number = zero i .number; place = zero i .place; settings = whole i }
+reading-accepted image pass = rw (image-zero image pass)
 
--- a refused image: the number and the place of the verdict, and the zero settings
+-- a refused image: its verdict, and the zero settings
 pub reading-refused : (image : List ℕ) → ¬ (imageVerdict image .number ≡ 0)
-    → reading image ≡ record { number = imageVerdict image .number; place = imageVerdict image .place; settings = zeroSettings }
+    → reading image ≡ record { verdict = imageVerdict image; settings = zeroSettings }
 unfolding reading
-reading-refused image refused =
-    let none : cond (eqb (imageVerdict image .number) 0) (settingsOf image) zeroSettings ≡ zeroSettings = rw (ne-eqb _ _ refused) in
-    λ i. record { number = imageVerdict image .number; place = imageVerdict image .place; settings = none i }
+reading-refused image refused = rw (ne-eqb _ _ refused)
 
 -- ---- the writer's buffer
 -- an accepted write leaves the settings' eighty bytes

@@ -16,7 +16,8 @@ use Rattle.image.specs.declared.settings.Settings.{Settings}
 use Rattle.image_laws.proofs.TableLaws.{never-lacking}
 use Rattle.records.proofs.VerdictLaws.{numberOf}
 use Rattle.records.proofs.Every.{Bytes}
-use Rattle.image_laws.proofs.Acceptance.{image-accepted, settings-accepted, settings-zero, write-eighty}
+use Rattle.image_laws.proofs.AcceptanceLaws.{settings-zero}
+use Rattle.image_laws.proofs.Acceptance.{image-accepted, settings-accepted, write-eighty}
 use Rattle.image_laws.proofs.Refusals.{image-length, reading-accepted, written-accepted}
 use Rattle.image_laws.proofs.RoundTripLaws.{image-good, settings-back, setting-normal}
 
@@ -33,14 +34,14 @@ settings-of-image-of settings ten pass = settings-back settings pass ten
 -- accepted settings are written into every buffer of eighty bytes, and what is written is read as those settings
 pub write-then-read : (settings : Settings) → length (settings .groups) ≡ 10 → settingsVerdict settings .number ≡ 0
     → (buffer : List ℕ) → length buffer ≡ 80
-    → (writeVerdict settings buffer ≡ accepted) × (reading (written settings buffer) ≡ record { number = 0; place = 0; settings = settings })
+    → (writeVerdict settings buffer ≡ accepted) × (reading (written settings buffer) ≡ record { verdict = accepted; settings = settings })
 write-then-read settings ten pass buffer eighty =
     let taken = write-eighty settings buffer eighty ∙ settings-zero settings pass in
     let image = written-accepted settings buffer (ap numberOf taken) in
     let same = settings-of-image-of settings ten pass in (
       taken,
       ap reading image ∙ reading-accepted (imageOf settings) (ap numberOf (image-of-accepted settings pass))
-          ∙ (λ i. record { number = 0; place = 0; settings = same i }),
+          ∙ (λ i. record { verdict = accepted; settings = same i }),
     )
 
 -- ---- an image, read and written

@@ -1,13 +1,13 @@
 -- Laws behind the round trips: from a group's eight bytes to the image and its ten groups. Assumes nothing.
-use Prim.Native.Nat.{ℕ, zero, suc, _+_, _*_, _/_, _%_, _<_}
+use Prim.Native.Nat.{ℕ, _+_, _*_, _/_, _%_, _<_}
 use mathlib.Core.Path.{_≡_, refl, ap, sym, _∙_}
-use mathlib.Core.List.{List, [], _∷_}
-use native.Mathlib.Nat.{zero-add, not-suc-le-zero, le-of-suc-le-suc}
+use mathlib.Core.List.{List}
+use native.Mathlib.Nat.{zero-add}
 use native.Mathlib.Omega.{arith}
 use lib.ListN.{length, getD}
 use lib.Seq.{ext-getD, getD-take, getD-drop}
 use Rattle.records.specs.Lists.{each}
-use Rattle.records.proofs.ListLaws.{each-at, each-length}
+use Rattle.records.proofs.ListLaws.{getD-default, each-at, each-length}
 use Rattle.image.specs.Groups.{part}
 use Rattle.image.specs.Codes.{codeValue}
 use Rattle.image.specs.Reading.{imageVerdict, groupOf, settingsOf, zeroGroup, groupAt}
@@ -19,7 +19,8 @@ use Rattle.image.specs.declared.settings.Group.{Group}
 use Rattle.image.specs.declared.settings.Settings.{Settings}
 use Rattle.records.proofs.Every.{Bytes}
 use Rattle.image_laws.proofs.Conditions.{GoodBelow}
-use Rattle.image_laws.proofs.Acceptance.{image-accepted, image-zero, settings-accepted, settings-zero}
+use Rattle.image_laws.proofs.AcceptanceLaws.{image-zero, settings-zero}
+use Rattle.image_laws.proofs.Acceptance.{image-accepted, settings-accepted}
 use Rattle.image_laws.proofs.ReadWriteLaws.{read-write}
 use Rattle.image_laws.proofs.WriteReadLaws.{write-good, write-read}
 
@@ -28,12 +29,6 @@ use Rattle.image_laws.proofs.WriteReadLaws.{write-good, write-read}
 part-at : (image : List ℕ) (k j : ℕ) → j < 8 → getD (part image k) j 0 ≡ getD image (8 * k + j) 0
 unfolding part
 part-at image k j inside = rw (getD-take, getD-drop)
-
--- a list's element does not depend on what stands for a missing one
-getD-any {ℓ} : {A : Type ℓ} (l : List A) (k : ℕ) (d e : A) → k < length l → getD l k d ≡ getD l k e
-getD-any [] k d e inside = absurd (not-suc-le-zero inside)
-getD-any (x ∷ xs) zero d e inside = refl
-getD-any (x ∷ xs) (suc k) d e inside = getD-any xs k d e (le-of-suc-le-suc inside)
 
 is-value : (code : Code) → ¬ (code ≡ Lacking) → code ≡ Is (codeValue code)
 is-value (Is b) is = refl
@@ -77,7 +72,7 @@ module _ (settings : Settings) where
         each-at (meantBy (imageOf settings)) 0 10 k (zeroGroup 0) inside
         ∙ ap (meantBy (imageOf settings)) (zero-add k)
         ∙ group-back k inside
-        ∙ getD-any (settings .groups) k (zeroGroup k) (zeroGroup 0) (rw ten inside)
+        ∙ getD-default (settings .groups) k (zeroGroup k) (zeroGroup 0) (rw ten inside)
 
     pub settings-back : length (settings .groups) ≡ 10 → settingsOf (imageOf settings) ≡ settings
     unfolding settingsOf meantBy

@@ -15,8 +15,9 @@ fn main() {
     let received = console::receive(&mut sheet);
     let mut table = [0u8; 756];
     let translation = translator::translate(&sheet[..received.count], &mut table);
-    if translation.number != 0 {
-        print(console::refusal(b"", translation.number, translation.place));
+    let verdict = translation.verdict;
+    if verdict.number != 0 {
+        print(console::refusal(b"", verdict.number, verdict.place));
         return;
     }
     print(heading(translation.cells));
@@ -28,10 +29,8 @@ fn heading(cells: u8) -> Line {
 }
 
 fn print_cells(table: &[u8], cells: u8) {
-    let mut k = 0;
-    while k < cells {
+    for k in 0..cells {
         print(cell_line(k, tables::cell_at(table, k)));
-        k += 1;
     }
 }
 

@@ -1,10 +1,11 @@
 -- Laws of the exits. Assumes nothing.
 use Prim.Native.Nat.{ℕ}
-use mathlib.Core.Path.{_≡_, refl, ap, sym, _∙_}
+use mathlib.Core.Path.{_≡_, refl, ap, ap₂, sym, _∙_}
 use mathlib.Core.Bool.{Bool, true, false, cond}
-use Rattle.machine.specs.Machine.{shares, met, due, exitOf, taken, after}
+use Rattle.machine.specs.Machine.{shares, met, due, exitOf, taken, after, tickAt}
 use Rattle.machine.specs.declared.node.Node.{Node}
 use Rattle.machine.specs.declared.state.State.{State}
+use Rattle.machine.specs.declared.state.Taken.{Taken}
 use Rattle.machine.specs.declared.exits.Exit.{Exit}
 use Rattle.machine.specs.declared.exits.Exit.the-variants.{Stay, Fault, Sequence, Timeout}
 
@@ -37,8 +38,10 @@ pub stay-not-due : (node : Node) (elapsed word : ℕ) → exitOf node elapsed wo
 unfolding exitOf
 stay-not-due node elapsed word e = not-due (shares node word) (met node word) (due node elapsed) e
 
--- the state after a tick, from the exit that it takes
-pub takes : (node : Node) (word : ℕ) (state : State) (exit : Exit) {next : State}
-    → exitOf node (state .elapsed) word ≡ exit → next ≡ taken exit node state → next ≡ after node word state
-unfolding after
-takes node word state exit e n = n ∙ ap (λ (x : Exit). taken x node state) (sym e)
+-- a tick from the exit that was found, and the state that taking it gives
+pub takes : (node : Node) (word : ℕ) (state : State) {found : Exit} (exit : Exit) {next : State}
+    → found ≡ exitOf node (state .elapsed) word → found ≡ exit → next ≡ taken exit node state
+    → _≡_ {A = Taken} (record { exit = found; state = next }) (tickAt node word state)
+unfolding tickAt after
+takes node word state exit f e n =
+    ap₂ (λ (x : Exit) (t : State). record { exit = x; state = t }) f (n ∙ ap (λ (x : Exit). taken x node state) (sym e ∙ f))

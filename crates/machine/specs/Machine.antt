@@ -8,6 +8,7 @@ use Rattle.machine.specs.declared.node.Node.{Node}
 use Rattle.machine.specs.declared.exits.Exit.{Exit}
 use Rattle.machine.specs.declared.exits.Exit.the-variants.{Stay, Fault, Sequence, Timeout}
 use Rattle.machine.specs.declared.state.State.{State}
+use Rattle.machine.specs.declared.state.Taken.{Taken}
 
 -- ---- which exit
 
@@ -50,9 +51,13 @@ taken Fault node state = enter (node .faultto)
 taken Sequence node state = enter (node .sequenceto)
 taken Timeout node state = enter (node .timeoutto)
 
--- "One tick with word w"
+-- the state after one tick
 unfoldable pub after : Node → ℕ → State → State
 after node word state = taken (exitOf node (state .elapsed) word) node state
+
+-- "One tick with word w": the exit that it takes, and the state after it
+unfoldable pub tickAt : Node → ℕ → State → Taken
+tickAt node word state = record { exit = exitOf node (state .elapsed) word; state = after node word state }
 
 -- "The start is step 0 or cell 0."
 abbrev pub startState : State

@@ -5,11 +5,14 @@ mod exits;
 mod node;
 mod state;
 
+pub use exits::Exit;
 pub use node::Node;
+pub use node::Standing;
 pub use state::State;
-pub use state::after;
+pub use state::Taken;
 pub use state::elapsed_in_range;
 pub use state::start;
+pub use state::tick;
 
 // The kinds of fault that a field may have, as specs/Fields.antt names them.
 pub const RANGE: u8 = 12;

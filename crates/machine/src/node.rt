@@ -1,4 +1,6 @@
 // A step or a cell, its exits leading to the numbers of other steps or cells.
+use records::Verdict;
+
 pub struct Node {
     pub outputs: u16,
     pub mask: u16,
@@ -9,4 +11,10 @@ pub struct Node {
     pub timeout: u16,
     pub timeoutto: u8,
     pub step: u8,
+}
+
+// A node, and the verdict on standing at it.
+pub struct Standing {
+    pub verdict: Verdict,
+    pub node: Node,
 }

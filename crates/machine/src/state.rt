@@ -3,7 +3,7 @@ use crate::exits;
 use crate::exits::Exit;
 use crate::node::Node;
 ghost use mathlib.Core.Path.{_≡_};
-ghost use Rattle.machine.specs.Machine.{startState, enter as Machine·enter, stay as Machine·stay, after as Machine·after};
+ghost use Rattle.machine.specs.Machine.{startState, enter as Machine·enter, stay as Machine·stay, tickAt};
 ghost use Rattle.machine.specs.Machine.{due};
 ghost use Rattle.machine.specs.Fields.{elapsedInRange};
 ghost use mathlib.Core.Bool.{false};
@@ -12,6 +12,12 @@ ghost use mathlib.Core.Bool.{false};
 pub struct State {
     pub at: u8,
     pub elapsed: u16,
+}
+
+// The exit that a tick takes, and the state after it.
+pub struct Taken {
+    pub exit: Exit,
+    pub state: State,
 }
 
 pub fn start() -> State
@@ -41,17 +47,18 @@ fn stay(node: Node, state: State) -> State
     }
 }
 
-// The state after one tick at a node with a word.
-pub fn after(node: Node, word: u16, state: State) -> State
-    ensures { λ r. ⌜ r ≡ Machine·after node word state ⌝ }
+// One tick at a node with a word.
+pub fn tick(node: Node, word: u16, state: State) -> Taken
+    ensures { λ r. ⌜ r ≡ tickAt node word state ⌝ }
 {
     let exit = exits::exit_of(node, state.elapsed, word);
-    match exit {
+    let next = match exit {
         Exit::Stay => stay(node, state),
         Exit::Fault => enter(node.faultto),
         Exit::Sequence => enter(node.sequenceto),
         Exit::Timeout => enter(node.timeoutto),
-    }
+    };
+    Taken { exit, state: next }
 }
 
 // Elapsed below the larger of 1 and the timeout.

@@ -1,19 +1,15 @@
 -- Laws of the pins. Assumes nothing.
 use Prim.Native.Nat.{ℕ, _<_}
-use mathlib.Core.Path.{_≡_, ap, ap₂, sym, _∙_}
+use mathlib.Core.Path.{_≡_, ap₂, _∙_}
 use mathlib.Core.Bool.{Bool}
 use native.Mathlib.Omega.{arith}
 use borrow.Author.Tests.{eq-eqb, ne-eqb}
-use lib.Dec.{ltb, eqb}
+use lib.Dec.{eqb}
 use lib.ListN.{length, getD}
 use Rattle.records.specs.Bits.{bits}
-use Rattle.records.specs.Numbers.{bad-word}
-use Rattle.records.specs.Verdicts.{refusedUnless, orElse}
 use Rattle.records.specs.declared.verdict.Verdict.{Verdict}
 use Rattle.records.proofs.ListLaws.{getD-default}
-use Rattle.records.proofs.VerdictLaws.{first-cons, first-one, unless-accepted}
 use Rattle.image.specs.Reading.{groupAt, zeroGroup}
-use Rattle.writing.specs.Writing.{settingsVerdict}
 use Rattle.image.specs.declared.settings.Group.{Group}
 use Rattle.image.specs.declared.settings.Settings.{Settings}
 use Rattle.pins.specs.Pins.{drive, pinsOf, pinsVerdict, driven}
@@ -34,19 +30,13 @@ module _ (settings : Settings) (outputs : ℕ) where
       made
       ∙ ap₂ (λ (group : Group) (n : ℕ). drive (group .output .source) (eqb n 1)) (getD-default (settings .groups) k d (zeroGroup k) (omega arith)) is
 
-  -- ---- the tests in their order
-  pub pins-tests : orElse (settingsVerdict settings) (refusedUnless (ltb outputs 1024) bad-word 0) ≡ pinsVerdict settings outputs
-  unfolding pinsVerdict
-  pins-tests =
-      ap (orElse (settingsVerdict settings)) (sym (first-one _ (unless-accepted (ltb outputs 1024) bad-word 0 (λ zero. omega arith)))) ∙ sym (first-cons _ _)
-
   -- ---- the answers, from the verdict that the code holds
   module _ (v : Verdict) (is : v ≡ pinsVerdict settings outputs) where
-    pub driven-refused : (v .number ≡ 0 → ⊥) → _≡_ {A = Driven} (record { number = v .number; place = v .place; pins = 0 }) (driven settings outputs)
+    pub driven-refused : (v .number ≡ 0 → ⊥) → _≡_ {A = Driven} (record { verdict = v; pins = 0 }) (driven settings outputs)
     unfolding driven
     driven-refused h = rw (← is, ne-eqb (v .number) 0 h)
 
     pub driven-accepted : (word : ℕ) → v .number ≡ 0 → word ≡ pinsOf settings outputs
-        → _≡_ {A = Driven} (record { number = v .number; place = v .place; pins = word }) (driven settings outputs)
+        → _≡_ {A = Driven} (record { verdict = v; pins = word }) (driven settings outputs)
     unfolding driven
     driven-accepted word h made = rw (← is, eq-eqb (v .number) 0 h, made)

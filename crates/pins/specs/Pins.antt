@@ -33,8 +33,5 @@ pinsVerdict settings outputs = firstRefusal (settingsVerdict settings ∷ refuse
 -- a refusal drives no pin
 unfoldable pub driven : Settings → ℕ → Driven
 driven settings outputs =
-    record {
-      number = pinsVerdict settings outputs .number;
-      place = pinsVerdict settings outputs .place;
-      pins = cond (eqb (pinsVerdict settings outputs .number) 0) (pinsOf settings outputs) 0;
-    }
+    let verdict = pinsVerdict settings outputs in
+    record { verdict = verdict; pins = cond (eqb (verdict .number) 0) (pinsOf settings outputs) 0 }

@@ -3,8 +3,7 @@ use bit_fields::word_bit;
 use image::Settings;
 use image::Source;
 use records::BAD_WORD;
-use records::or_else;
-use records::refuse_unless;
+use records::Verdict;
 use words::bit;
 ghost use mathlib.Core.Path.{_≡_};
 ghost use Rattle.pins.specs.Pins.{driven, pinsOf};
@@ -12,8 +11,7 @@ ghost use Rattle.pins.specs.Pins.{drive as Pins·drive};
 
 // The word of pins, with number 0; or the refusal, with no pin.
 pub struct Driven {
-    pub number: u8,
-    pub place: usize,
+    pub verdict: Verdict,
     pub pins: u16,
 }
 
@@ -22,17 +20,12 @@ pub fn pins(settings: Settings, outputs: u16) -> Driven
     ensures { λ r. ⌜ r ≡ driven settings outputs ⌝ }
 {
     let means = writing::settings_verdict(settings);
-    let verdict = or_else(means, refuse_unless(outputs < 1024, BAD_WORD, 0));
+    let verdict = means.unless(outputs < 1024, BAD_WORD, 0);
     if verdict.number != 0 {
-        return Driven {
-            number: verdict.number,
-            place: verdict.place,
-            pins: 0,
-        };
+        return Driven { verdict, pins: 0 };
     }
     Driven {
-        number: verdict.number,
-        place: verdict.place,
+        verdict,
         pins: drive_all(settings, outputs),
     }
 }
@@ -41,13 +34,11 @@ fn drive_all(settings: Settings, outputs: u16) -> u16
     ensures { λ r. ⌜ r ≡ pinsOf settings outputs ⌝ }
 {
     let mut word = 0;
-    let mut k = 0;
-    while k < 10 {
+    for k in 0..10 {
         let group = settings.groups[k];
         let output = group.output;
         let source = output.source;
         word += bit(drive(source, word_bit(outputs, k as u8) == 1), k);
-        k += 1;
     }
     word
 }

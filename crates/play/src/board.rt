@@ -2,12 +2,13 @@
 use detectors::Detected;
 use engine::Ticked;
 use image::Settings;
+use records::Verdict;
+use records::accepted;
 
-// What the detectors, the engine and the pins answer, with number 0; or the first refusal of the
-// three, with nothing asked of those behind it.
+// What the detectors, the engine and the pins answer; or the first refusal of the three, with nothing
+// asked of those behind it.
 pub(crate) struct Board {
-    pub number: u8,
-    pub place: usize,
+    pub verdict: Verdict,
     pub detected: Detected,
     pub ticked: Ticked,
     pub pins: u16,
@@ -17,8 +18,7 @@ pub(crate) struct Board {
 pub(crate) fn start(settings: Settings, table: &[u8]) -> Board {
     let bank = detectors::start();
     let detected = Detected {
-        number: 0,
-        place: 0,
+        verdict: accepted(),
         bank,
         faults: 0,
         warnings: 0,
@@ -35,10 +35,10 @@ impl Board {
         let ticked = self.ticked;
         let state = ticked.state;
         let detected = detectors::engine_tick(settings, bank, frames);
-        if detected.number != 0 {
+        let verdict = detected.verdict;
+        if verdict.number != 0 {
             return Board {
-                number: detected.number,
-                place: detected.place,
+                verdict,
                 detected,
                 ticked,
                 pins: 0,
@@ -50,19 +50,19 @@ impl Board {
 }
 
 fn driven(settings: Settings, detected: Detected, ticked: Ticked) -> Board {
-    if ticked.number != 0 {
+    let verdict = ticked.verdict;
+    if verdict.number != 0 {
         return Board {
-            number: ticked.number,
-            place: ticked.place,
+            verdict,
             detected,
             ticked,
             pins: 0,
         };
     }
     let driven = pins::pins(settings, ticked.outputs);
+    let verdict = driven.verdict;
     Board {
-        number: driven.number,
-        place: driven.place,
+        verdict,
         detected,
         ticked,
         pins: driven.pins,

@@ -24,8 +24,9 @@ fn main() {
     let mut bytes = [0u8; 80];
     let received = console::receive(&mut bytes);
     let reading = reading::read(&bytes[..received.count]);
-    if reading.number != 0 {
-        print(refusal(b" image", reading.number, reading.place));
+    let verdict = reading.verdict;
+    if verdict.number != 0 {
+        print(refusal(b" image", verdict.number, verdict.place));
         return;
     }
     let settings = reading.settings;
@@ -38,8 +39,9 @@ fn play_sheet(settings: Settings) {
     let length = receive_sheet(&mut sheet);
     let mut table = [0u8; 756];
     let translation = translator::translate(&sheet[..length], &mut table);
-    if translation.number != 0 {
-        print(refusal(b" sheet", translation.number, translation.place));
+    let verdict = translation.verdict;
+    if verdict.number != 0 {
+        print(refusal(b" sheet", verdict.number, verdict.place));
         return;
     }
     let bytes = 12 * translation.cells as usize;
@@ -74,23 +76,25 @@ fn least(a: usize, b: usize) -> usize
 fn play_ticks(settings: Settings, table: &[u8]) {
     let mut board = board::start(settings, table);
     print(start_line(board));
-    let mut tick = 0;
-    while tick < u64::MAX && board.number == 0 {
+    for tick in 0..u64::MAX {
+        if board.verdict.number != 0 {
+            return;
+        }
         let mut frames = [0u8; 220];
         let received = console::receive(&mut frames);
         let count = received.count;
         if count == 0 && !received.failed {
             return;
         }
-        tick += 1;
         board = board.tick(settings, table, &frames[..count]);
-        print(tick_line(tick, board));
+        print(tick_line(tick + 1, board));
     }
 }
 
 fn start_line(board: Board) -> Line {
-    if board.number != 0 {
-        return refusal(b" ticks", board.number, board.place);
+    let verdict = board.verdict;
+    if verdict.number != 0 {
+        return refusal(b" ticks", verdict.number, verdict.place);
     }
     let ticked = board.ticked;
     let line = text::empty().word(b"start").item(ticked.step as u64);
@@ -98,8 +102,9 @@ fn start_line(board: Board) -> Line {
 }
 
 fn tick_line(tick: u64, board: Board) -> Line {
-    if board.number != 0 {
-        return refusal(b" ticks", board.number, board.place);
+    let verdict = board.verdict;
+    if verdict.number != 0 {
+        return refusal(b" ticks", verdict.number, verdict.place);
     }
     let detected = board.detected;
     let ticked = board.ticked;

@@ -8,15 +8,14 @@ use borrow.Author.Tests.{eq-eqb, ne-eqb, eqb-true}
 use lib.Dec.{eqb}
 use lib.ListN.{length, getD, take, drop, length-take, length-drop}
 use lib.Seq.{getD-take, getD-drop}
-use Rattle.records.specs.Bits.{bits}
 use Rattle.records.specs.Lists.{each}
-use Rattle.records.specs.Numbers.{wrong-length, reserved, unprinted}
-use Rattle.records.specs.Verdicts.{refusedUnless, orElse, firstRefusal}
+use Rattle.records.specs.Numbers.{wrong-length}
+use Rattle.records.specs.Verdicts.{refused, refusedUnless, orElse, firstRefusal}
 use Rattle.records.specs.declared.verdict.Verdict.{Verdict}
 use Rattle.records.proofs.ListLaws.{getD-default, each-length, each-ext, each-record}
-use Rattle.records.proofs.VerdictLaws.{unless-zero, unless-accepted, orElse-pass, orElse-hit, orElse-zero, first-cons, first-one, first-records}
+use Rattle.records.proofs.VerdictLaws.{unless-zero, orElse-pass, orElse-hit, orElse-zero, first-cons, first-records}
 use Rattle.image.specs.Groups.{isVH, isVX, part}
-use Rattle.image.specs.Reading.{reservedFrom, usable, printed, byteVerdict, partVerdict, addressVerdict, imageVerdict, groupOf, zeroGroup, zeroSettings}
+use Rattle.image.specs.Reading.{reservedFrom, byteVerdict, partVerdict, addressVerdict, imageVerdict, groupOf, zeroGroup, zeroSettings}
 use Rattle.image.specs.declared.settings.Group.{Group}
 use Rattle.image.specs.declared.settings.Settings.{Settings}
 
@@ -49,13 +48,6 @@ reserved-below k j =
     let five = either-below (isVH k) 1 2 9 (omega arith) (omega arith) in
     let six = either-below (isVX k) 7 0 9 (omega arith) (omega arith) in
     below-at 9 (reservedTable (cond (isVH k) 1 2) (cond (isVX k) 7 0)) j 8 (omega arith) (omega arith)
-
--- ---- one byte's tests
-pub byte-tests : (k j b address : ℕ)
-    → byteVerdict k j b address
-    ≡ orElse (refusedUnless (eqb (bits b (reservedFrom k j) (8 - reservedFrom k j)) 0) reserved address) (refusedUnless (printed j b) unprinted address)
-unfolding byteVerdict usable
-byte-tests k j b address = first-cons _ _ ∙ ap (orElse _) (first-one _ (unless-accepted (printed j b) unprinted address (λ e. omega arith)))
 
 -- ---- a group's part
 -- the part as the code lends it
@@ -99,7 +91,7 @@ image-parts image =
 pub image-whole : (image : List ℕ) → length image ≡ 80 → imageVerdict image ≡ firstRefusal (each (groupTest image) 0 10)
 image-whole image h = image-parts image ∙ orElse-pass _ _ (rw (eq-eqb _ _ h))
 
-pub image-not-whole : (image : List ℕ) → (length image ≡ 80 → ⊥) → imageVerdict image ≡ refusedUnless false wrong-length 0
+pub image-not-whole : (image : List ℕ) → (length image ≡ 80 → ⊥) → imageVerdict image ≡ refused wrong-length 0
 image-not-whole image h = image-parts image ∙ rw (ne-eqb _ _ h) (orElse-hit _ _ (λ e. omega arith))
 
 -- an accepted image is whole

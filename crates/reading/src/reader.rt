@@ -12,8 +12,8 @@ use records::RESERVED;
 use records::UNPRINTED;
 use records::Verdict;
 use records::WRONG_LENGTH;
-use records::or_else;
-use records::refuse_unless;
+use records::accepted;
+use records::refused;
 ghost use Prim.Native.Nat.{_<_};
 ghost use mathlib.Core.Path.{_≡_};
 ghost use lib.ListN.{length};
@@ -30,28 +30,22 @@ pub fn read(image: &[u8]) -> Reading
     } else {
         zero::zero()
     };
-    Reading {
-        number: verdict.number,
-        place: verdict.place,
-        settings,
-    }
+    Reading { verdict, settings }
 }
 
 fn image_verdict(image: &[u8]) -> Verdict
     ensures { λ r. ⌜ r ≡ imageVerdict (now (image .entry)) ⌝ }
 {
     if image.len() != 80 {
-        return refuse_unless(false, WRONG_LENGTH, 0);
+        return refused(WRONG_LENGTH, 0);
     }
-    let mut k = 0;
-    while k < 10 {
+    for k in 0..10 {
         let verdict = part_verdict(k, &image[8 * k..8 * k + 8]);
         if verdict.number != 0 {
             return verdict;
         }
-        k += 1;
     }
-    refuse_unless(true, 0, 0)
+    accepted()
 }
 
 // The tests of the eight bytes of group k.
@@ -60,15 +54,13 @@ fn part_verdict(k: usize, part: &[u8]) -> Verdict
     requires { ⌜ length (now part) ≡ 8 ⌝ }
     ensures { λ r. ⌜ r ≡ partVerdict k (now (part .entry)) ⌝ }
 {
-    let mut j = 0;
-    while j < 8 {
+    for j in 0..8 {
         let verdict = byte_verdict(k, j, part[j], 8 * k + j);
         if verdict.number != 0 {
             return verdict;
         }
-        j += 1;
     }
-    refuse_unless(true, 0, 0)
+    accepted()
 }
 
 fn byte_verdict(k: usize, j: usize, byte: u8, address: usize) -> Verdict
@@ -77,9 +69,10 @@ fn byte_verdict(k: usize, j: usize, byte: u8, address: usize) -> Verdict
 {
     let from = reserved_from(k, j);
     let usable = field(byte, from, 8 - from) == 0;
-    let first = refuse_unless(usable, RESERVED, address);
-    let second = refuse_unless(is_printed(j, byte), UNPRINTED, address);
-    or_else(first, second)
+    let printed = is_printed(j, byte);
+    accepted()
+        .unless(usable, RESERVED, address)
+        .unless(printed, UNPRINTED, address)
 }
 
 // The lowest reserved bit of byte j of group k, 8 where it has none.
@@ -111,10 +104,8 @@ fn read_groups(image: &[u8]) -> Settings
 {
     let zero = zero::zero();
     let mut groups = zero.groups;
-    let mut k = 0;
-    while k < 10 {
+    for k in 0..10 {
         groups[k] = read_group(k, &image[8 * k..8 * k + 8]);
-        k += 1;
     }
     Settings { groups }
 }

@@ -1,6 +1,6 @@
 -- Laws of fields: what shifts and masks mean in arithmetic, once over the shift and the width. Assumes nothing.
 use Prim.Native.Nat.{ℕ, _+_, _-_, _*_, _/_, _%_, _^_, _≤_, _<_}
-use mathlib.Core.Path.{_≡_, ap, ap₂, sym, subst, _∙_}
+use mathlib.Core.Path.{_≡_, ap, ap₂, sym, _∙_}
 use native.Mathlib.Nat.{one-mul, add-zero, mod-lt, mod-eq-of-lt, zero-mod, div-eq-of-lt, lt-of-lt-of-le, lt-of-le-of-lt, mul-mod-left, mul-div-left, sub-add-cancel, le-of-lt, mul-assoc, zero-add}
 use native.Mathlib.Omega.{arith}
 use lib.Bits.{bitAnd, bitOr, and-mask, or-shifted}

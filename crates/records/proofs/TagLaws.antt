@@ -13,20 +13,19 @@ use Rattle.records.specs.Tags.{tagAt, usedBefore, repeats, lowest, lookU
 
 -- ---- the lowest number for which a test holds
 
--- the lowest of n numbers from i on lies among them or just past them; among them it passes the test; none before it does
+-- the lowest of n numbers from i on: among them it passes the test; none before it does
 pub record Lowest (test : ℕ → Bool) (i n at : ℕ) : Type 0 where
   pub from : i ≤ at
-  pub upto : at ≤ i + n
   pub holds : at < i + n → test at ≡ true
   pub before : (k : ℕ) → i ≤ k → k < at → test k ≡ false
 
 lowest-here : (test : ℕ → Bool) (i n : ℕ) → test i ≡ true → Lowest test i n i
 lowest-here test i n e =
-    record { from = omega arith; upto = omega arith; holds = λ h. e; before = λ k p q. absurd (omega arith) }
+    record { from = omega arith; holds = λ h. e; before = λ k p q. absurd (omega arith) }
 
 lowest-later : (test : ℕ → Bool) (i n at : ℕ) → test i ≡ false → Lowest test (suc i) n at → Lowest test i (suc n) at
 lowest-later test i n at e rest =
-    record { from = omega arith; upto = omega arith; holds = λ h. rest .holds (omega arith); before = earlier }
+    record { from = omega arith; holds = λ h. rest .holds (omega arith); before = earlier }
   where
     earlier : (k : ℕ) → i ≤ k → k < at → test k ≡ false
     earlier k p q =
@@ -40,7 +39,7 @@ lowest-split test i n at false e rest = lowest-later test i n at e rest
 pub lowest-is : (test : ℕ → Bool) (i n : ℕ) → Lowest test i n (lowest test i n)
 unfolding lowest
 lowest-is test i zero =
-    record { from = omega arith; upto = omega arith; holds = λ h. absurd (omega arith); before = λ k p q. absurd (omega arith) }
+    record { from = omega arith; holds = λ h. absurd (omega arith); before = λ k p q. absurd (omega arith) }
 lowest-is test i (suc n) = lowest-split test i n (lowest test (suc i) n) (test i) refl (lowest-is test (suc i) n)
 
 -- a number that passes, with none before it that does, is the lowest
@@ -109,11 +108,6 @@ module _ (w : ℕ) (bytes : List ℕ) where
 
   -- ---- look-up
 
-  -- look-up gives n at most
-  pub lookUp-le : (n tag : ℕ) → lookUp w bytes n tag ≤ n
-  unfolding lookUp
-  lookUp-le n tag = omega (arith, lowest-is (λ k. eqb (tagAt w bytes k) tag) 0 n .upto)
-
   -- below n it gives a record with the tag
   pub lookUp-has : (n tag : ℕ) → lookUp w bytes n tag < n → tagAt w bytes (lookUp w bytes n tag) ≡ tag
   unfolding lookUp
@@ -123,16 +117,6 @@ module _ (w : ℕ) (bytes : List ℕ) where
   pub lookUp-first : (n tag k : ℕ) → k < lookUp w bytes n tag → tagAt w bytes k ≡ tag → ⊥
   unfolding lookUp
   lookUp-first n tag k h = eqb-false _ _ (lowest-is (λ k. eqb (tagAt w bytes k) tag) 0 n .before k (omega arith) h)
-
-  -- it is n exactly when no record below n has the tag
-  pub lookUp-none : (n tag : ℕ) → (lookUp w bytes n tag ≡ n) ↔ ((k : ℕ) → k < n → tagAt w bytes k ≡ tag → ⊥)
-  lookUp-none n tag = (
-    λ e k h. lookUp-first n tag k (omega arith),
-    λ none. elim (decLt (lookUp w bytes n tag) n) [
-      | yes p ↦ absurd (none (lookUp w bytes n tag) p (lookUp-has n tag p))
-      | no p ↦ omega (arith, lookUp-le n tag)
-    ],
-  )
 
   -- without repeats among the first n records, look-up undoes tagAt
   pub lookUp-tagAt : (n : ℕ) → ((j : ℕ) → j < n → repeats w bytes j ≡ false) → (k : ℕ) → k < n → lookUp w bytes n (tagAt w bytes k) ≡ k

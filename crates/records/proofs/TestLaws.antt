@@ -1,17 +1,17 @@
 -- Laws that cross from tests to facts, both ways: what a verdict says of its tests. Assumes nothing.
-use Prim.Native.Nat.{ℕ, _≤_, _<_}
+use Prim.Native.Nat.{ℕ, _*_, _%_, _≤_, _<_}
 use mathlib.Core.Path.{_≡_, refl, ap, sym, _∙_}
-use mathlib.Core.Bool.{Bool, true, false, not, _||_, false≢true}
+use mathlib.Core.Bool.{Bool, true, false, not, _&&_, _||_, false≢true, and-eq-true-iff}
 use mathlib.Core.List.{List, [], _∷_}
 use mathlib.Core.Logic.{_↔_}
 use native.Mathlib.Decide.{ℕ-discrete}
 use borrow.Author.Tests.{ltb-true, lt-ltb, leb-true, le-leb, eqb-true, eq-eqb, ne-eqb}
 use lib.Dec.{ltb, leb, eqb}
-use Rattle.records.specs.Verdicts.{refusedUnless, orElse, firstRefusal}
+use Rattle.records.specs.Verdicts.{refused, refusedUnless, orElse, firstRefusal}
 use Rattle.records.specs.Lists.{each}
 use Rattle.records.specs.declared.verdict.Verdict.{Verdict}
 use Rattle.records.proofs.Every.{Every, none, _also_}
-use Rattle.records.proofs.VerdictLaws.{orElse-pass, orElse-hit, numberOf, tests-accepted, accepted-tests, lowest-shows, shows-lowest}
+use Rattle.records.proofs.VerdictLaws.{orElse-pass, orElse-hit, orElse-zero, numberOf, tests-accepted, accepted-tests, lowest-shows, shows-lowest}
 
 -- ---- tests as facts
 
@@ -45,6 +45,24 @@ present-test m n = (
     or-true true = refl
     or-true false = refl
 
+-- ---- a length: "1 to 63" records of so many bytes each
+
+pub record Whole (width n : ℕ) : Type 0 where
+  pub least : width ≤ n
+  pub most : n ≤ 63 * width
+  pub whole : n % width ≡ 0
+
+pub whole-test : (width n : ℕ) → (leb width n && leb n (63 * width) && eqb (n % width) 0 ≡ true) ↔ Whole width n
+whole-test width n = (
+  λ e.
+      let outer = and-eq-true-iff _ _ .0 e in
+      let inner = and-eq-true-iff _ _ .0 (outer .0) in
+      record { least = le-test _ _ .0 (inner .0); most = le-test _ _ .0 (inner .1); whole = eq-test _ _ .0 (outer .1) },
+  λ h.
+      and-eq-true-iff _ _ .1
+      (and-eq-true-iff _ _ .1 (le-test _ _ .1 (h .least), le-test _ _ .1 (h .most)), eq-test _ _ .1 (h .whole)),
+)
+
 -- ---- one verdict
 
 -- a verdict of one test accepts exactly where the test holds
@@ -73,11 +91,29 @@ pub refusal-shows : (v w : Verdict) {number place : ℕ} → (number ≡ 0 → �
     → orElse v w ≡ record { number = number; place = place }
 refusal-shows v w some e = orElse-hit v w (λ z. some (ap (λ (x : Verdict). x .number) (sym e) ∙ z)) ∙ e
 
+-- every test of a list passes
+abbrev pub AllPass : List Verdict → Type 0
+AllPass vs = Every (λ v. v .number ≡ 0) vs
+
 -- a list of tests accepts where each does
-pub all-zero : (vs : List Verdict) → Every (λ v. v .number ≡ 0) vs → firstRefusal vs .number ≡ 0
+pub all-zero : (vs : List Verdict) → AllPass vs → firstRefusal vs .number ≡ 0
 unfolding firstRefusal
 all-zero [] none = refl
-all-zero (v ∷ vs) (p also ps) = ap (λ (x : Verdict). x .number) (orElse-pass v (firstRefusal vs) p) ∙ all-zero vs ps
+all-zero (v ∷ vs) (p also ps) = ap numberOf (orElse-pass v (firstRefusal vs) p) ∙ all-zero vs ps
+
+-- and only there: what a proof matches on, test by test
+pub all-pass : (vs : List Verdict) → firstRefusal vs .number ≡ 0 → AllPass vs
+unfolding firstRefusal
+all-pass [] e = none
+all-pass (v ∷ vs) e = let both = orElse-zero v (firstRefusal vs) e in both .0 also all-pass vs (both .1)
+
+-- two tests accept exactly where both facts hold
+pub two-tests : {first second : Bool} {P Q : Type 0} → ((first ≡ true) ↔ P) → ((second ≡ true) ↔ Q) → (m n place : ℕ) → (m ≡ 0 → ⊥) → (n ≡ 0 → ⊥)
+    → (firstRefusal (refusedUnless first m place ∷ refusedUnless second n place ∷ []) .number ≡ 0) ↔ (P × Q)
+two-tests one other m n place some more = (
+  λ e. elim (all-pass _ e) [ p also q also none ↦ (unless-passed one m place some p, unless-passed other n place more q) ],
+  λ h. all-zero _ (unless-passes one m place (h .0) also unless-passes other n place (h .1) also none),
+)
 
 -- ---- one test for each of n numbers: the lowest that fails is named
 
@@ -87,44 +123,46 @@ pub record LowestWithout (P : ℕ → Type 0) (n j : ℕ) : Type 0 where
   pub fails : P j → ⊥
   pub before : (i : ℕ) → i < j → P i
 
--- a verdict over the numbers below n: accepted exactly where each has the property; else it gives the number, at the lowest that has it not
-pub record NamesLowest (verdict : Verdict) (number n : ℕ) (P : ℕ → Type 0) : Type 0 where
+-- a verdict over the numbers below n: accepted exactly where each has the property; else the refusal of the lowest that has it not
+pub record ShowsLowest (verdict : Verdict) (refusal : ℕ → Verdict) (n : ℕ) (P : ℕ → Type 0) : Type 0 where
   pub accepts : (verdict .number ≡ 0) ↔ ((k : ℕ) → k < n → P k)
   pub refuses : (verdict .number ≡ 0 → ⊥) → (j : ℕ) × LowestWithout P n j
-  pub names : (j : ℕ) → LowestWithout P n j → verdict ≡ record { number = number; place = j }
+  pub names : (j : ℕ) → LowestWithout P n j → verdict ≡ refusal j
+
+-- the first refusal of a verdict for each number, whatever number and place each refuses with
+pub shows-lowest-of : (test : ℕ → Verdict) (n : ℕ) (P : ℕ → Type 0) → ((k : ℕ) → (test k .number ≡ 0) ↔ P k)
+    → ShowsLowest (firstRefusal (each test 0 n)) test n P
+shows-lowest-of test n P means =
+    record {
+      accepts = (λ e k h. means k .0 (accepted-tests test n e k h), λ f. ap numberOf (tests-accepted test n (λ k h. means k .1 (f k h))));
+      refuses = λ r. let found = shows-lowest test n r in (
+        found .0,
+        record {
+          within = found .1 .inside;
+          fails = λ p. found .1 .refuses (means (found .0) .1 p);
+          before = λ i h. means i .0 (found .1 .before i h);
+        },
+      );
+      names = λ j low.
+          lowest-shows test n j
+          (record { inside = low .within; refuses = λ z. low .fails (means j .0 z); before = λ i h. means i .1 (low .before i h) });
+    }
+
+-- a verdict that gives one number, at the lowest without the property
+abbrev pub NamesLowest : Verdict → ℕ → ℕ → (ℕ → Type 0) → Type 0
+NamesLowest verdict number n P = ShowsLowest verdict (refused number) n P
 
 -- each number's verdict, with the number as its place
 abbrev pub testedEach : (ℕ → Bool) → ℕ → ℕ → List Verdict
 testedEach test number n = each (λ k. refusedUnless (test k) number k) 0 n
 
-module _ (test : ℕ → Bool) (number n : ℕ) (refuses : number ≡ 0 → ⊥) (P : ℕ → Type 0) (means : (k : ℕ) → (test k ≡ true) ↔ P k) where
-  verdictOf : ℕ → Verdict
-  verdictOf k = refusedUnless (test k) number k
-
-  passed : (k : ℕ) → verdictOf k .number ≡ 0 → P k
-  unfolding verdictOf
-  passed k = unless-passed (means k) number k refuses
-
-  passes : (k : ℕ) → P k → verdictOf k .number ≡ 0
-  unfolding verdictOf
-  passes k = unless-passes (means k) number k
-
-  -- the first refusal of one test for each number
-  pub names-lowest : NamesLowest (firstRefusal (testedEach test number n)) number n P
-  unfolding verdictOf
-  names-lowest =
-      record {
-        accepts = (λ e k h. passed k (accepted-tests verdictOf n e k h), λ f. ap numberOf (tests-accepted verdictOf n (λ k h. passes k (f k h))));
-        refuses = λ r. let found = shows-lowest verdictOf n r in (
-          found .0,
-          record {
-            within = found .1 .inside;
-            fails = λ p. found .1 .refuses (passes (found .0) p);
-            before = λ i h. passed i (found .1 .before i h);
-          },
-        );
-        names = λ j low.
-            lowest-shows verdictOf n j
-            (record { inside = low .within; refuses = λ z. low .fails (passed j z); before = λ i h. passes i (low .before i h) })
-            ∙ unless-shows (test j) number j (means j) (low .fails);
-      }
+-- the first refusal of one test for each number
+pub names-lowest : (test : ℕ → Bool) (number n : ℕ) → (number ≡ 0 → ⊥) → (P : ℕ → Type 0) → ((k : ℕ) → (test k ≡ true) ↔ P k)
+    → NamesLowest (firstRefusal (testedEach test number n)) number n P
+names-lowest test number n refuses P means =
+    let all = shows-lowest-of (λ k. refusedUnless (test k) number k) n P (λ k. (unless-passed (means k) number k refuses, unless-passes (means k) number k)) in
+    record {
+      accepts = all .accepts;
+      refuses = all .refuses;
+      names = λ j low. all .names j low ∙ unless-shows (test j) number j (means j) (low .fails);
+    }

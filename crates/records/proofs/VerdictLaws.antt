@@ -3,12 +3,12 @@ use Prim.Native.Nat.{ℕ, zero, suc, _+_, _-_, _*_, _≤_, _<_}
 use mathlib.Core.Path.{_≡_, refl, ap, ap₂, sym, _∙_}
 use mathlib.Core.Bool.{Bool, true, false}
 use mathlib.Core.List.{List, [], _∷_, _++_}
-use native.Mathlib.Nat.{not-suc-le-zero, le-of-suc-le-suc, mul-zero, mul-suc, add-comm, zero-add}
+use native.Mathlib.Nat.{not-suc-le-zero, le-of-suc-le-suc, mul-zero, mul-suc, add-comm, zero-add, sub-zero}
 use native.Mathlib.Omega.{arith}
 use native.Mathlib.Decide.{ℕ-discrete, decLt}
 use borrow.Author.Tests.{eq-eqb, ne-eqb}
 use lib.ListN.{getD, List·getD-eq-default}
-use Rattle.records.specs.Verdicts.{accepted, refusedUnless, orElse, firstRefusal}
+use Rattle.records.specs.Verdicts.{accepted, refused, refusedUnless, orElse, firstRefusal}
 use Rattle.records.specs.Lists.{each}
 use Rattle.records.specs.declared.verdict.Verdict.{Verdict}
 use Rattle.records.proofs.ListLaws.{each-next, each-none, each-split, each-at, each-length}
@@ -74,11 +74,7 @@ pub first-one : (v : Verdict) → (v .number ≡ 0 → v ≡ accepted) → first
 unfolding firstRefusal
 first-one v h = orElse-end v h
 
--- no test is left, or the last by itself
-pub first-none : {r : Verdict} → r ≡ accepted → r ≡ firstRefusal []
-unfolding firstRefusal
-first-none r = r
-
+-- the last test by itself
 pub first-last : (holds : Bool) (number place : ℕ) → (number ≡ 0 → ⊥) → firstRefusal (refusedUnless holds number place ∷ []) ≡ refusedUnless holds number place
 first-last holds number place h = first-one (refusedUnless holds number place) (unless-accepted holds number place h)
 
@@ -93,7 +89,7 @@ first-append [] vs = sym (orElse-pass accepted (firstRefusal vs) refl)
 first-append (u ∷ us) vs = ap (orElse u) (first-append us vs) ∙ sym (orElse-assoc u (firstRefusal us) (firstRefusal vs))
 
 -- every test of the list passes; past its end nothing is tested
-abbrev pub Passes : List Verdict → Type 0
+abbrev Passes : List Verdict → Type 0
 Passes vs = (j : ℕ) → getD vs j accepted .number ≡ 0
 
 -- the test at j refuses, and all before it pass
@@ -102,12 +98,12 @@ pub record FirstAt (vs : List Verdict) (j : ℕ) : Type 0 where
   pub before : (i : ℕ) → i < j → getD vs i accepted .number ≡ 0
 
 -- accepted exactly when every test passes
-pub passes-accepted : (vs : List Verdict) → Passes vs → firstRefusal vs ≡ accepted
+passes-accepted : (vs : List Verdict) → Passes vs → firstRefusal vs ≡ accepted
 unfolding firstRefusal
 passes-accepted [] h = refl
 passes-accepted (v ∷ vs) h = orElse-pass v (firstRefusal vs) (h 0) ∙ passes-accepted vs (λ j. h (suc j))
 
-pub accepted-passes : (vs : List Verdict) → firstRefusal vs .number ≡ 0 → Passes vs
+accepted-passes : (vs : List Verdict) → firstRefusal vs .number ≡ 0 → Passes vs
 unfolding firstRefusal
 accepted-passes [] h j = refl
 accepted-passes (v ∷ vs) h zero = orElse-zero v (firstRefusal vs) h .0
@@ -192,39 +188,6 @@ module _ (test : ℕ → Verdict) (n : ℕ) where
   pub shows-lowest : (firstRefusal (each test 0 n) .number ≡ 0 → ⊥) → (a : ℕ) × Lowest test n a
   shows-lowest refused = let first = shows-first (each test 0 n) refused in (first .0, first-lowest (first .0) (first .1))
 
--- where every refusal has one number, so has the first
-pub each-number : (f : ℕ → Verdict) (m : ℕ) → ((j : ℕ) → (f j .number ≡ 0 → ⊥) → f j .number ≡ m)
-    → (i n : ℕ) → (firstRefusal (each f i n) .number ≡ 0 → ⊥) → firstRefusal (each f i n) .number ≡ m
-unfolding each firstRefusal
-each-number f m h i zero r = absurd (r refl)
-each-number f m h i (suc n) r =
-    elim (ℕ-discrete (f i .number) 0) [
-      | yes p ↦ number (orElse-pass (f i) _ p) ∙ each-number f m h (suc i) n (λ z. r (number (orElse-pass (f i) _ p) ∙ z))
-      | no p ↦ number (orElse-hit (f i) _ p) ∙ h i p
-    ]
-  where
-    number : {u v : Verdict} → u ≡ v → u .number ≡ v .number
-    number e = ap (λ (x : Verdict). x .number) e
-
--- ---- a loop over tests that returns the first refusal: what is left gives the whole answer
-module _ (f : ℕ → Verdict) (k n : ℕ) where
-  pub search-hit : k < n → (f k .number ≡ 0 → ⊥) → firstRefusal (each f k (n - k)) ≡ f k
-  search-hit h r = ap firstRefusal (each-next f k n h) ∙ first-cons _ _ ∙ orElse-hit _ _ r
-
-  pub search-pass : k < n → f k .number ≡ 0 → firstRefusal (each f k (n - k)) ≡ firstRefusal (each f (k + 1) (n - (k + 1)))
-  search-pass h r = ap firstRefusal (each-next f k n h) ∙ first-cons _ _ ∙ orElse-pass _ _ r
-
-  -- the same where the code holds the test's verdict
-  pub found-hit : (v : Verdict) → v ≡ f k → k < n → (v .number ≡ 0 → ⊥) → firstRefusal (each f k (n - k)) ≡ v
-  found-hit v is h r = search-hit h (λ z. r (ap (λ (x : Verdict). x .number) is ∙ z)) ∙ sym is
-
-  pub found-pass : (v : Verdict) → v ≡ f k → k < n → v .number ≡ 0 → firstRefusal (each f k (n - k)) ≡ firstRefusal (each f (k + 1) (n - (k + 1)))
-  found-pass v is h r = search-pass h (sym (ap (λ (x : Verdict). x .number) is) ∙ r)
-
-  pub search-end : n ≤ k → firstRefusal (each f k (n - k)) ≡ accepted
-  unfolding firstRefusal
-  search-end h = ap firstRefusal (each-none f k n h)
-
 -- ---- the search over n records of w tests is the search over the records
 pub first-records : (f : ℕ → Verdict) (w k n : ℕ) → firstRefusal (each f (w * k) (w * n)) ≡ firstRefusal (each (λ i. firstRefusal (each f (w * i) w)) k n)
 unfolding each
@@ -236,3 +199,87 @@ first-records f w k (suc n) =
     ∙ ap (λ (m : ℕ). orElse (firstRefusal (each f (w * k) w)) (firstRefusal (each f m (w * n)))) (sym (mul-suc w k))
     ∙ ap (orElse (firstRefusal (each f (w * k) w))) (first-records f w (suc k) n)
     ∙ sym (first-cons _ _)
+
+-- ---- code that joins verdicts from the first to the last
+-- the verdict so far, then the tests that are left
+unfoldable pub chained : Verdict → List Verdict → Verdict
+chained so-far [] = so-far
+chained so-far (v ∷ vs) = chained (orElse so-far v) vs
+
+-- number 0 comes with place 0
+abbrev pub Proper : Verdict → Type 0
+Proper v = v .number ≡ 0 → v ≡ accepted
+
+-- the last test of a list that begins with v
+abbrev pub lastOf : Verdict → List Verdict → Verdict
+lastOf v [] = v
+lastOf v (w ∷ ws) = lastOf w ws
+
+-- a chain is the first refusal of its tests, where the last of them refuses with a number
+chain-first : (u v : Verdict) (vs : List Verdict) → Proper (lastOf v vs) → chained u (v ∷ vs) ≡ orElse u (firstRefusal (v ∷ vs))
+unfolding chained firstRefusal
+chain-first u v [] p = ap (orElse u) (sym (orElse-end v p))
+chain-first u v (w ∷ ws) p = chain-first (orElse u v) w ws p ∙ orElse-assoc u v (firstRefusal (w ∷ ws))
+
+pub first-chained : {r : Verdict} (v : Verdict) (vs : List Verdict) → Proper (lastOf v vs) → r ≡ chained accepted (v ∷ vs) → r ≡ firstRefusal (v ∷ vs)
+first-chained v vs p e = e ∙ chain-first accepted v vs p ∙ orElse-pass accepted (firstRefusal (v ∷ vs)) refl
+
+-- one more test of a chain: what it had reached, then the test
+pub chain-more : {r u v t w : Verdict} → r ≡ orElse u t → u ≡ v → t ≡ w → r ≡ orElse v w
+chain-more r u t = r ∙ ap₂ orElse u t
+
+-- a chain of one test
+pub chain-one : {r u v : Verdict} → r ≡ orElse u v → u ≡ accepted → r ≡ v
+chain-one {v = v} r u = r ∙ ap (λ (x : Verdict). orElse x v) u ∙ orElse-pass accepted v refl
+
+-- ---- a loop over tests that returns the first refusal: what is left gives the whole answer
+module _ (f : ℕ → Verdict) (k n : ℕ) where
+  search-hit : k < n → (f k .number ≡ 0 → ⊥) → firstRefusal (each f k (n - k)) ≡ f k
+  search-hit h r = ap firstRefusal (each-next f k n h) ∙ first-cons _ _ ∙ orElse-hit _ _ r
+
+  search-pass : k < n → f k .number ≡ 0 → firstRefusal (each f k (n - k)) ≡ firstRefusal (each f (k + 1) (n - (k + 1)))
+  search-pass h r = ap firstRefusal (each-next f k n h) ∙ first-cons _ _ ∙ orElse-pass _ _ r
+
+  -- the same where the code holds the test's verdict
+  found-hit : (v : Verdict) → v ≡ f k → k < n → (v .number ≡ 0 → ⊥) → firstRefusal (each f k (n - k)) ≡ v
+  found-hit v is h r = search-hit h (λ z. r (ap (λ (x : Verdict). x .number) is ∙ z)) ∙ sym is
+
+  found-pass : (v : Verdict) → v ≡ f k → k < n → v .number ≡ 0 → firstRefusal (each f k (n - k)) ≡ firstRefusal (each f (k + 1) (n - (k + 1)))
+  found-pass v is h r = search-pass h (sym (ap (λ (x : Verdict). x .number) is) ∙ r)
+
+  search-end : n ≤ k → firstRefusal (each f k (n - k)) ≡ accepted
+  unfolding firstRefusal
+  search-end h = ap firstRefusal (each-none f k n h)
+
+-- the same as a record of what a loop over n tests has reached before test k
+pub record Searched (whole : Verdict) (f : ℕ → Verdict) (n k : ℕ) : Type 0 where
+  pub within : k ≤ n
+  pub left : whole ≡ firstRefusal (each f k (n - k))
+
+module _ {whole : Verdict} {f : ℕ → Verdict} {n : ℕ} where
+  pub searched-none : {count : ℕ} → n ≡ count → whole ≡ firstRefusal (each f 0 count) → Searched whole f n 0
+  searched-none counted all =
+      record { within = omega arith; left = all ∙ ap (λ (m : ℕ). firstRefusal (each f 0 m)) (sym (sub-zero n ∙ counted)) }
+
+  module _ {k : ℕ} (so : Searched whole f n k) where
+    -- the code holds the verdict of test k
+    pub searched-pass : {v : Verdict} → k < n → v ≡ f k → v .number ≡ 0 → Searched whole f n (k + 1)
+    searched-pass h is r = record { within = omega arith; left = so .left ∙ found-pass f k n _ is h r }
+
+    pub searched-hit : {v : Verdict} → k < n → v ≡ f k → (v .number ≡ 0 → ⊥) → v ≡ whole
+    searched-hit h is r = sym (so .left ∙ found-hit f k n _ is h r)
+
+    pub searched-end : n ≤ k → accepted ≡ whole
+    searched-end h = sym (so .left ∙ search-end f k n h)
+
+-- a flag for each number: where it is false, the number of the list at its place
+abbrev pub flagged : (ℕ → Bool) → ℕ → (ℕ → ℕ) → ℕ → Verdict
+flagged flag number place j = refusedUnless (flag j) number (place j)
+
+-- the same where each test is a flag
+module _ (flag : ℕ → Bool) (number : ℕ) (place : ℕ → ℕ) {whole : Verdict} {n k : ℕ} (so : Searched whole (flagged flag number place) n k) (h : k < n) where
+  pub flag-pass : flag k ≡ true → Searched whole (flagged flag number place) n (k + 1)
+  flag-pass t = searched-pass so h (ap (λ (b : Bool). refusedUnless b number (place k)) (sym t)) refl
+
+  pub flag-hit : (number ≡ 0 → ⊥) → flag k ≡ false → refused number (place k) ≡ whole
+  flag-hit some t = searched-hit so h (ap (λ (b : Bool). refusedUnless b number (place k)) (sym t)) some

@@ -1,5 +1,5 @@
 -- Laws of words made of bits. Assumes nothing.
-use Prim.Native.Nat.{ℕ, zero, suc, _+_, _-_, _*_, _/_, _%_, _^_, _≤_, _<_}
+use Prim.Native.Nat.{ℕ, zero, suc, _+_, _-_, _/_, _%_, _^_, _≤_, _<_}
 use mathlib.Core.Path.{_≡_, refl, ap, ap₂, sym, subst, _∙_}
 use mathlib.Core.Bool.{Bool, true, false, cond}
 use native.Mathlib.Nat.{pow-suc, not-suc-le-zero, mod-eq-of-lt, lt-of-lt-of-le, add-zero, add-mul-div-right, add-mul-mod-self-right, add-div-right, div-eq-of-lt}

@@ -9,9 +9,13 @@ use Rattle.records.specs.declared.verdict.Verdict.{Verdict}
 abbrev pub accepted : Verdict
 accepted = record { number = 0; place = 0 }
 
+-- a number of the list at its place
+abbrev pub refused : ℕ → ℕ → Verdict
+refused number place = record { number = number; place = place }
+
 -- accepted where the test holds; else the number at the place
 abbrev pub refusedUnless : Bool → ℕ → ℕ → Verdict
-refusedUnless holds number place = cond holds accepted (record { number = number; place = place })
+refusedUnless holds number place = cond holds accepted (refused number place)
 
 -- the first verdict where it refuses; else the second
 unfoldable pub orElse : Verdict → Verdict → Verdict

@@ -5,8 +5,8 @@
 mod verdict;
 
 pub use verdict::Verdict;
-pub use verdict::or_else;
-pub use verdict::refuse_unless;
+pub use verdict::accepted;
+pub use verdict::refused;
 
 // "Numbers given back", as specs/Numbers.antt names them.
 pub const ACCEPTED: u8 = 0;

@@ -1,29 +1,42 @@
 // A verdict is a number of the paper's list with its place; tests are joined in their order.
 ghost use mathlib.Core.Path.{_≡_};
-ghost use Rattle.records.specs.Verdicts.{orElse, refusedUnless};
+ghost use Rattle.records.specs.Verdicts.{orElse, refusedUnless, accepted as Verdicts·accepted, refused as Verdicts·refused};
 
 pub struct Verdict {
     pub number: u8,
     pub place: usize,
 }
 
-// Accepted where the test holds; else the number at the place.
-pub fn refuse_unless(holds: bool, number: u8, place: usize) -> Verdict
-    ensures { λ r. ⌜ r ≡ refusedUnless holds number place ⌝ }
+pub fn accepted() -> Verdict
+    ensures { λ r. ⌜ r ≡ Verdicts·accepted ⌝ }
 {
-    if holds {
-        Verdict {
-            number: 0,
-            place: 0,
-        }
-    } else {
-        Verdict { number, place }
-    }
+    refused(0, 0)
 }
 
-// The first verdict where it refuses; else the second.
-pub fn or_else(first: Verdict, second: Verdict) -> Verdict
-    ensures { λ r. ⌜ r ≡ orElse first second ⌝ }
+pub fn refused(number: u8, place: usize) -> Verdict
+    ensures { λ r. ⌜ r ≡ Verdicts·refused number place ⌝ }
 {
-    if first.number == 0 { second } else { first }
+    Verdict { number, place }
+}
+
+impl Verdict {
+    // The verdict so far where it refuses; else the next test: the number at the place unless it holds.
+    pub fn unless(self, holds: bool, number: u8, place: usize) -> Verdict
+        ensures { λ r. ⌜ r ≡ orElse self (refusedUnless holds number place) ⌝ }
+    {
+        if self.number != 0 {
+            return self;
+        }
+        if holds {
+            return accepted();
+        }
+        refused(number, place)
+    }
+
+    // The verdict so far where it refuses; else the other.
+    pub fn then(self, other: Verdict) -> Verdict
+        ensures { λ r. ⌜ r ≡ orElse self other ⌝ }
+    {
+        if self.number == 0 { other } else { self }
+    }
 }

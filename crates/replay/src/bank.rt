@@ -10,10 +10,8 @@ ghost use Prim.Native.Nat.{_≤_};
 // From the bytes from 160 on, after settings.
 pub(crate) fn bank_from(bytes: &[u8]) -> Bank {
     let mut channels = [channel_from(bytes, 160); 10];
-    let mut k = 1;
-    while k < 10 {
+    for k in 1..10 {
         channels[k] = channel_from(bytes, 160 + 10 * k);
-        k += 1;
     }
     Bank { channels }
 }
@@ -44,12 +42,10 @@ pub(crate) fn is_bank(bank: Bank, expected: &[u8], at: usize) -> bool
     requires { ⌜ at ≤ 100 ⌝ }
 {
     let channels = bank.channels;
-    let mut k = 0;
-    while k < 10 {
+    for k in 0..10 {
         if !is_channel(channels[k], expected, at + 10 * k) {
             return false;
         }
-        k += 1;
     }
     true
 }

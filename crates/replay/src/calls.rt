@@ -1,6 +1,7 @@
 // The calls by kind: settings, detectors and pins.
 use crate::bank::bank_from;
 use crate::bank::is_bank;
+use crate::for_c;
 use crate::machine_calls;
 use crate::parts::ends_with;
 use crate::parts::is_verdict;
@@ -8,6 +9,7 @@ use crate::settings::is_settings;
 use crate::settings::settings_from;
 use detectors::Detected;
 use image::Settings;
+use states::state_bytes;
 use words::word_at;
 ghost use Prim.Native.Nat.{_≤_};
 
@@ -21,6 +23,9 @@ pub(crate) fn is_alike(kind: u8, given: &[u8], lent: &mut [u8], expected: &[u8])
     }
     if kind == 6 {
         return machine_calls::is_translated(given, lent, expected);
+    }
+    if kind >= 14 && kind <= 18 {
+        return for_c::is_for_c(kind, given, lent, expected);
     }
     if lent.len() != 0 {
         return false;
@@ -37,7 +42,7 @@ pub(crate) fn is_alike(kind: u8, given: &[u8], lent: &mut [u8], expected: &[u8])
 fn is_read(image: &[u8], lent: &mut [u8], expected: &[u8]) -> bool {
     let reading = reading::read(image);
     let settings = reading.settings;
-    is_verdict(reading.number, reading.place, expected, 0)
+    is_verdict(reading.verdict, expected, 0)
         & is_settings(settings, expected, 3)
         & is_written(settings, lent, expected, 163)
 }
@@ -47,9 +52,8 @@ fn is_written(settings: Settings, lent: &mut [u8], expected: &[u8], at: usize) -
     requires { ⌜ at ≤ 200 ⌝ }
 {
     let verdict = writing::settings_verdict(settings);
-    let wrote = writing::write(settings, lent);
-    is_verdict(verdict.number, verdict.place, expected, at)
-        & is_verdict(wrote.number, wrote.place, expected, at + 3)
+    is_verdict(verdict, expected, at)
+        & is_verdict(writing::write(settings, lent), expected, at + 3)
         & ends_with(lent, expected, at + 6)
 }
 
@@ -70,7 +74,7 @@ fn is_detected(kind: u8, given: &[u8], expected: &[u8]) -> bool {
 }
 
 fn is_detection(detected: Detected, expected: &[u8]) -> bool {
-    is_verdict(detected.number, detected.place, expected, 0)
+    is_verdict(detected.verdict, expected, 0)
         & is_bank(detected.bank, expected, 3)
         & (detected.faults == word_at(expected, 103))
         & (detected.warnings == word_at(expected, 105))
@@ -79,17 +83,16 @@ fn is_detection(detected: Detected, expected: &[u8]) -> bool {
 
 fn is_driven(settings: Settings, outputs: u16, expected: &[u8]) -> bool {
     let driven = pins::pins(settings, outputs);
-    is_verdict(driven.number, driven.place, expected, 0)
+    is_verdict(driven.verdict, expected, 0)
         & (driven.pins == word_at(expected, 3))
         & (expected.len() == 5)
 }
 
 fn is_started(expected: &[u8]) -> bool {
-    if expected.len() != 183 {
+    if expected.len() != 188 {
         return false;
     }
-    let blank = blank_image::blank();
-    ends_with(&blank, &expected[0..80], 0)
+    ends_with(&blank_image::blank(), &expected[0..80], 0)
         & is_bank(detectors::start(), expected, 80)
-        & machine_calls::is_state(engine::start(), expected, 180)
+        & ends_with(&state_bytes(engine::start()), expected, 180)
 }

@@ -3,6 +3,7 @@
 // docs/CASES.md has the stream's format and what is printed.
 mod bank;
 mod calls;
+mod for_c;
 mod machine_calls;
 mod parts;
 mod settings;

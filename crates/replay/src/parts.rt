@@ -1,4 +1,5 @@
 // Parts of a case: received whole, and compared.
+use records::Verdict;
 use words::byte_at;
 use words::word_at;
 ghost use Prim.Native.Nat.{_≤_};
@@ -16,10 +17,11 @@ pub(crate) fn is_flag(on: bool, expected: &[u8], at: usize) -> bool {
     (byte_at(expected, at) == 1) == on
 }
 
-pub(crate) fn is_verdict(number: u8, place: usize, expected: &[u8], at: usize) -> bool
+pub(crate) fn is_verdict(verdict: Verdict, expected: &[u8], at: usize) -> bool
     requires { ⌜ at ≤ 1000 ⌝ }
 {
-    (byte_at(expected, at) == number) & (word_at(expected, at + 1) as usize == place)
+    (byte_at(expected, at) == verdict.number)
+        & (word_at(expected, at + 1) as usize == verdict.place)
 }
 
 // Whether what is expected ends with the lent bytes, `at` bytes from its start.
@@ -32,12 +34,11 @@ pub(crate) fn ends_with(lent: &[u8], expected: &[u8], at: usize) -> bool
     if expected.len() - at != lent.len() {
         return false;
     }
-    let mut i = 0;
-    while i < lent.len() {
+    let count = lent.len();
+    for i in 0..count {
         if lent[i] != expected[at + i] {
             return false;
         }
-        i += 1;
     }
     true
 }

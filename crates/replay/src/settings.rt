@@ -56,10 +56,8 @@ const PULLS: [Pull; 12] = [
 
 pub(crate) fn settings_from(bytes: &[u8]) -> Settings {
     let mut groups = [group_from(bytes, 0); 10];
-    let mut k = 1;
-    while k < 10 {
+    for k in 1..10 {
         groups[k] = group_from(bytes, 16 * k);
-        k += 1;
     }
     Settings { groups }
 }
@@ -112,12 +110,10 @@ pub(crate) fn is_settings(settings: Settings, expected: &[u8], at: usize) -> boo
     requires { ⌜ at ≤ 100 ⌝ }
 {
     let groups = settings.groups;
-    let mut k = 0;
-    while k < 10 {
+    for k in 0..10 {
         if !is_group(groups[k], expected, at + 16 * k) {
             return false;
         }
-        k += 1;
     }
     true
 }

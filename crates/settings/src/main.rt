@@ -20,8 +20,8 @@ fn main() {
     let mut buffer = [0u8; 81];
     let received = console::receive(&mut buffer);
     let reading = reading::read(&buffer[..received.count]);
-    if reading.number != 0 {
-        print(console::refusal(b"", reading.number, reading.place));
+    if reading.verdict.number != 0 {
+        print(console::refusal(b"", reading.verdict.number, reading.verdict.place));
         return;
     }
     let settings = reading.settings;
@@ -33,10 +33,8 @@ fn print_groups(settings: Settings) {
     let mut normal = [0u8; 80];
     writing::write(settings, &mut normal);
     let groups = settings.groups;
-    let mut k = 0;
-    while k < 10 {
+    for k in 0..10 {
         print(group_line(k, groups[k], &normal[8 * k..8 * k + 8]));
-        k += 1;
     }
 }
 
@@ -51,10 +49,8 @@ fn group_line(k: usize, group: Group, normal: &[u8]) -> Line {
 
 fn normal_bytes(line: Line, normal: &[u8]) -> Line {
     let mut all = line;
-    let mut j = 0;
-    while j < normal.len() {
+    for j in 0..normal.len() {
         all = all.hex(words::byte_at(normal, j) as u64, 2);
-        j += 1;
     }
     all
 }

@@ -74,14 +74,12 @@ pub(crate) fn pull(line: Line, pull: Pull) -> Line {
 fn listed(line: Line, words: &[u8], number: usize) -> Line {
     let mut all = line;
     let mut passed = 0;
-    let mut i = 0;
-    while i < words.len() {
+    for i in 0..words.len() {
         if words[i] == b' ' {
             passed += 1;
         } else if passed == number {
             all = all.word(&words[i..i + 1]);
         }
-        i += 1;
     }
     all
 }

@@ -1,5 +1,5 @@
 -- An accepted sheet: the paper's conditions as facts, which hold exactly when the verdict's number is 0. Assumes nothing.
-use Prim.Native.Nat.{ℕ, _*_, _/_, _%_, _≤_, _<_}
+use Prim.Native.Nat.{ℕ, _*_, _/_, _≤_, _<_}
 use mathlib.Core.Path.{_≡_, refl, ap, sym, subst, _∙_}
 use mathlib.Core.Bool.{Bool, true, false, not, _||_, and-eq-true-iff}
 use mathlib.Core.List.{List}
@@ -10,9 +10,8 @@ use borrow.Author.Tests.{eq-eqb, ne-eqb, ltb-true, lt-ltb, not-true}
 use lib.Dec.{ltb, eqb}
 use lib.ListN.{length}
 use Rattle.records.specs.Tags.{tagAt, repeats, lookUp}
-use Rattle.records.proofs.VerdictLaws.{accepted-passes}
 use Rattle.records.proofs.Every.{none, _also_}
-use Rattle.records.proofs.TestLaws.{le-test, eq-test, absent-test, present-test, unless-passed, unless-passes, all-zero, NamesLowest, names-lowest}
+use Rattle.records.proofs.TestLaws.{le-test, eq-test, absent-test, present-test, Whole, whole-test, unless-passed, unless-passes, all-zero, all-pass, two-tests, NamesLowest, names-lowest}
 use Rattle.records.proofs.TagLaws.{repeats-some, fresh, lookUp-has, lookUp-first, lookUp-tagAt}
 use Rattle.machine.proofs.FieldLaws.{outputs-range, mask-range, channel-range, level-range, level-allowed}
 use Rattle.machine.proofs.StandLaws.{Leads, AbsentExits}
@@ -25,15 +24,7 @@ use Rattle.steps.specs.declared.step.Step.{Step}
 -- "A jump holds a tag and is 0 exactly when its exit is absent (mask 0, channel 0, timeout 0)"
 pub jump-accepted : (field jump offset : ℕ) → (jumpFault (not (eqb field 0)) jump offset .number ≡ 0) ↔ ((field ≡ 0) ↔ (jump ≡ 0))
 unfolding jumpFault
-jump-accepted field jump offset = (
-  λ e. (
-    unless-passed (absent-test field jump) _ _ (omega arith) (accepted-passes _ e 0),
-    unless-passed (present-test field jump) _ _ (omega arith) (accepted-passes _ e 1),
-  ),
-  λ h.
-      all-zero _
-      (unless-passes (absent-test field jump) _ _ (h .0) also unless-passes (present-test field jump) _ _ (h .1) also none),
-)
+jump-accepted field jump offset = two-tests (absent-test field jump) (present-test field jump) _ _ offset (λ z. omega arith) (λ z. omega arith)
 
 -- "Tag at least 1; outputs and mask below 1024; channel 0 for none or 1 to 10; level 0 or 1; timeout 0 to 40,000 ticks. A jump ... is 0 exactly when its exit is absent ...; with channel 0 the level is 0."
 pub record AcceptedStep (step : Step) : Type 0 where
@@ -53,18 +44,21 @@ pub step-accepted : (step : Step) → (stepFault step .number ≡ 0) ↔ Accepte
 unfolding stepFault
 step-accepted step = (
   λ e.
-      record {
-        tag = unless-passed (le-test _ _) _ _ (omega arith) (accepted-passes _ e 0);
-        outputs = unless-passed (outputs-range _) _ _ (omega arith) (accepted-passes _ e 1);
-        mask = unless-passed (mask-range _) _ _ (omega arith) (accepted-passes _ e 2);
-        faultjump = jump-accepted _ _ _ .0 (accepted-passes _ e 3);
-        channel = unless-passed (channel-range _) _ _ (omega arith) (accepted-passes _ e 4);
-        level = unless-passed (level-range _) _ _ (omega arith) (accepted-passes _ e 5);
-        nolevel = unless-passed (level-allowed _ _) _ _ (omega arith) (accepted-passes _ e 6);
-        sequencejump = jump-accepted _ _ _ .0 (accepted-passes _ e 7);
-        timeout = unless-passed (le-test _ _) _ _ (omega arith) (accepted-passes _ e 8);
-        timeoutjump = jump-accepted _ _ _ .0 (accepted-passes _ e 9);
-      },
+      elim (all-pass _ e) [
+        | tag also outputs also mask also faultjump also channel also level also nolevel also sequencejump also timeout also timeoutjump also none ↦
+            record {
+              tag = unless-passed (le-test _ _) _ _ (omega arith) tag;
+              outputs = unless-passed (outputs-range _) _ _ (omega arith) outputs;
+              mask = unless-passed (mask-range _) _ _ (omega arith) mask;
+              faultjump = jump-accepted _ _ _ .0 faultjump;
+              channel = unless-passed (channel-range _) _ _ (omega arith) channel;
+              level = unless-passed (level-range _) _ _ (omega arith) level;
+              nolevel = unless-passed (level-allowed _ _) _ _ (omega arith) nolevel;
+              sequencejump = jump-accepted _ _ _ .0 sequencejump;
+              timeout = unless-passed (le-test _ _) _ _ (omega arith) timeout;
+              timeoutjump = jump-accepted _ _ _ .0 timeoutjump;
+            }
+      ],
   λ h.
       all-zero _ (
       unless-passes (le-test _ _) _ _ (h .tag) also
@@ -83,10 +77,8 @@ step-accepted step = (
 -- ---- a sheet
 
 -- "A sheet has 1 to 63 steps of 16 bytes"
-pub record SheetLength (sheet : List ℕ) : Type 0 where
-  pub least : 16 ≤ length sheet
-  pub most : length sheet ≤ 1008
-  pub whole : length sheet % 16 ≡ 0
+abbrev pub SheetLength : List ℕ → Type 0
+SheetLength sheet = Whole 16 (length sheet)
 
 -- no earlier step has the tag of step j
 abbrev pub Fresh : List ℕ → ℕ → Type 0
@@ -115,15 +107,7 @@ module _ (sheet : List ℕ) where
   -- the length
   pub length-accepted : (isSheet sheet ≡ true) ↔ SheetLength sheet
   unfolding isSheet
-  length-accepted = (
-    λ e.
-        let outer = and-eq-true-iff _ _ .0 e in
-        let inner = and-eq-true-iff _ _ .0 (outer .0) in
-        record { least = le-test _ _ .0 (inner .0); most = le-test _ _ .0 (inner .1); whole = eq-test _ _ .0 (outer .1) },
-    λ h.
-        and-eq-true-iff _ _ .1
-        (and-eq-true-iff _ _ .1 (le-test _ _ .1 (h .least), le-test _ _ .1 (h .most)), eq-test _ _ .1 (h .whole)),
-  )
+  length-accepted = whole-test 16 (length sheet)
 
   -- the fields of a step
   fields-mean : (k : ℕ) → (eqb (stepFault (stepAt sheet k) .number) 0 ≡ true) ↔ AcceptedStep (stepAt sheet k)
@@ -201,12 +185,15 @@ module _ (sheet : List ℕ) where
   unfolding sheetVerdict sheetTests
   sheet-accepted = (
     λ e.
-        record {
-          size = unless-passed length-accepted _ _ (omega arith) (accepted-passes _ e 0);
-          steps = fields-test .accepts .0 (accepted-passes _ e 1);
-          tags = repeats-test .accepts .0 (accepted-passes _ e 2);
-          jumps = unknown-test .accepts .0 (accepted-passes _ e 3);
-        },
+        elim (all-pass _ e) [
+          | size also steps also tags also jumps also none ↦
+              record {
+                size = unless-passed length-accepted _ _ (omega arith) size;
+                steps = fields-test .accepts .0 steps;
+                tags = repeats-test .accepts .0 tags;
+                jumps = unknown-test .accepts .0 jumps;
+              }
+        ],
     λ a.
         all-zero _ (
         unless-passes length-accepted _ _ (a .size) also

@@ -1,10 +1,9 @@
 // Tags: the lowest step that repeats one, and the step that has one.
 use records::REPEATED_TAG;
 use records::Verdict;
-use records::refuse_unless;
+use records::accepted;
 use steps::step_count;
 use words::word_at;
-ghost use Prim.Native.Nat.{_≤_, _<_, _*_};
 ghost use mathlib.Core.Path.{_≡_};
 ghost use Rattle.records.specs.Tags.{tagAt, lookUp};
 ghost use Rattle.steps.specs.Steps.{stepCount};
@@ -26,7 +25,7 @@ pub(crate) fn repeats_verdict(sheet: &[u8]) -> Verdict
         }
         later += 1;
     }
-    refuse_unless(later == steps, REPEATED_TAG, later as usize)
+    accepted().unless(later == steps, REPEATED_TAG, later as usize)
 }
 
 // The lowest step with a tag; the number of steps where none has it.
@@ -34,14 +33,12 @@ pub(crate) fn look_up(sheet: &[u8], wanted: u16) -> u8
     ensures { λ r. ⌜ r ≡ lookUp 16 (now (sheet .entry)) (stepCount (now (sheet .entry))) wanted ⌝ }
 {
     let steps = step_count(sheet);
-    let mut k = 0;
-    while k < steps {
+    for k in 0..steps {
         if tag(sheet, k) == wanted {
             return k;
         }
-        k += 1;
     }
-    k
+    steps
 }
 
 fn tag(sheet: &[u8], k: u8) -> u16

@@ -4,7 +4,8 @@ use records::OUT_OF_RANGE;
 use records::UNKNOWN_TAG;
 use records::Verdict;
 use records::WRONG_LENGTH;
-use records::refuse_unless;
+use records::accepted;
+use records::refused;
 use steps::step_at;
 use steps::step_count;
 use steps::step_fault;
@@ -14,18 +15,11 @@ ghost use Rattle.sheets.specs.Sheets.{isSheet, sheetVerdict, fieldsVerdi
 pub fn sheet_verdict(sheet: &[u8]) -> Verdict
     ensures { λ r. ⌜ r ≡ sheetVerdict (now (sheet .entry)) ⌝ }
 {
-    if !is_sheet(sheet) {
-        return refuse_unless(false, WRONG_LENGTH, 0);
-    }
-    let fields = fields_verdict(sheet);
-    if fields.number != 0 {
-        return fields;
-    }
-    let repeats = tags::repeats_verdict(sheet);
-    if repeats.number != 0 {
-        return repeats;
-    }
-    unknown_verdict(sheet)
+    accepted()
+        .unless(is_sheet(sheet), WRONG_LENGTH, 0)
+        .then(fields_verdict(sheet))
+        .then(tags::repeats_verdict(sheet))
+        .then(unknown_verdict(sheet))
 }
 
 // 1 to 63 steps of 16 bytes.
@@ -40,29 +34,24 @@ fn fields_verdict(sheet: &[u8]) -> Verdict
     ensures { λ r. ⌜ r ≡ fieldsVerdict (now (sheet .entry)) ⌝ }
 {
     let steps = step_count(sheet);
-    let mut k = 0;
-    while k < steps {
-        let fault = step_fault(step_at(sheet, k));
-        if fault.number != 0 {
-            return refuse_unless(false, OUT_OF_RANGE, k as usize);
+    for k in 0..steps {
+        if step_fault(step_at(sheet, k)).number != 0 {
+            return refused(OUT_OF_RANGE, k as usize);
         }
-        k += 1;
     }
-    refuse_unless(true, 0, 0)
+    accepted()
 }
 
 fn unknown_verdict(sheet: &[u8]) -> Verdict
     ensures { λ r. ⌜ r ≡ unknownVerdict (now (sheet .entry)) ⌝ }
 {
     let steps = step_count(sheet);
-    let mut k = 0;
-    while k < steps {
+    for k in 0..steps {
         if !jumps_known(sheet, k) {
-            return refuse_unless(false, UNKNOWN_TAG, k as usize);
+            return refused(UNKNOWN_TAG, k as usize);
         }
-        k += 1;
     }
-    refuse_unless(true, 0, 0)
+    accepted()
 }
 
 fn jumps_known(sheet: &[u8], k: u8) -> bool

@@ -11,6 +11,7 @@ use Rattle.records.specs.Verdicts.{refusedUnless, firstRefusal}
 use Rattle.records.specs.declared.verdict.Verdict.{Verdict}
 use Rattle.machine.specs.Fields.{outputsInRange, maskInRange, channelInRange, levelInRange, levelAllowed, range-fault, jump-without-exit, level-without-channel}
 use Rattle.machine.specs.declared.node.Node.{Node}
+use Rattle.machine.specs.declared.node.Standing.{Standing}
 
 -- ---- bytes
 
@@ -99,6 +100,10 @@ cellTests table k =
 
 unfoldable pub cellVerdict : List ℕ → ℕ → Verdict
 cellVerdict table k = firstRefusal (cellTests table k)
+
+-- one cell, and the verdict on standing at it
+unfoldable pub cellStanding : List ℕ → ℕ → Standing
+cellStanding table k = record { verdict = cellVerdict table k; node = cellAt table k }
 
 -- the length, then every cell; the lowest is named
 unfoldable pub tableVerdict : List ℕ → Verdict

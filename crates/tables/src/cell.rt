@@ -3,7 +3,8 @@
 use machine::Node;
 use records::Verdict;
 use records::WRONG_LENGTH;
-use records::refuse_unless;
+use records::accepted;
+use records::refused;
 use words::byte_at;
 use words::copy;
 use words::word_at;
@@ -34,10 +35,10 @@ pub fn write_cell(cell: Node, part: &mut [u8]) -> Verdict
     ensures { λ _. ⌜ now (part .exit) ≡ cellWritten cell (now (part .entry)) ⌝ }
 {
     if part.len() != 12 {
-        return refuse_unless(false, WRONG_LENGTH, 0);
+        return refused(WRONG_LENGTH, 0);
     }
     copy(&cell_bytes(cell), part);
-    refuse_unless(true, 0, 0)
+    accepted()
 }
 
 fn cell_bytes(cell: Node) -> [u8; 12]

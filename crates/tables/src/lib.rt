@@ -7,5 +7,5 @@ mod verdict;
 
 pub use cell::cell_at;
 pub use cell::write_cell;
-pub use verdict::cell_verdict;
+pub use verdict::cell_standing;
 pub use verdict::table_verdict;

@@ -4,11 +4,10 @@ use mathlib.Core.Path.{_≡_, refl, ap, ap₂, sym, subst, _∙_}
 use mathlib.Core.List.{List, [], _∷_, _++_, append-assoc}
 use native.Mathlib.Nat.{add-zero, add-suc, suc-add, add-sub-of-le, le-antisymm, le-of-suc-le-suc, lt-of-not-le, pow-le-pow-right, min-eq-left, min-le-right, min-zero, zero-min, suc-min-suc}
 use native.Mathlib.Decide.{decLe}
-use native.Mathlib.Numerals.{add-one}
 use native.Mathlib.Omega.{arith}
 use borrow.Author.Tests.{lt-ltb, le-ltb}
-use lib.ListN.{length, getD, take, drop, length-append, length-take, length-map}
-use lib.Seq.{paste, take-at, take-suc, take-append-add, drop-append-add, drop-drop}
+use lib.ListN.{length, take, drop, length-append, length-take, length-map}
+use lib.Seq.{paste, take-at, take-append-add, drop-append-add, drop-drop}
 use mir.Val.{Val}
 use denote.Laws.{Is as Owned}
 use denote.Struct.Declared.{row}

@@ -1,7 +1,7 @@
 -- A line of text and what is put into it: words, and numbers as digits. Assumes nothing.
 use Prim.Native.Nat.{ℕ, zero, suc, _-_, _^_, min, max}
 use mathlib.Core.Bool.{cond}
-use mathlib.Core.List.{List, [], _∷_, _++_}
+use mathlib.Core.List.{List, _++_}
 use lib.Dec.{ltb}
 use lib.ListN.{length, take, drop, replicate}
 use Rattle.io.specs.Digits.{digits}

@@ -40,10 +40,8 @@ impl Line {
         let start = self.count();
         let count = least(text.len(), 256 - start);
         let mut bytes = self.bytes;
-        let mut i = 0;
-        while i < count {
+        for i in 0..count {
             bytes[start + i] = text[i];
-            i += 1;
         }
         Line {
             bytes,

@@ -1,7 +1,7 @@
 -- An accepted cell and an accepted table: the paper's conditions as facts, which hold exactly when the verdict's number is 0. Assumes nothing.
-use Prim.Native.Nat.{ℕ, _*_, _%_, _≤_, _<_}
+use Prim.Native.Nat.{ℕ, _≤_, _<_}
 use mathlib.Core.Path.{_≡_, ap, sym, _∙_}
-use mathlib.Core.Bool.{true, not, and-eq-true-iff}
+use mathlib.Core.Bool.{true, not}
 use mathlib.Core.List.{List}
 use mathlib.Core.Logic.{_↔_}
 use native.Mathlib.Omega.{arith}
@@ -10,9 +10,9 @@ use lib.ListN.{length}
 use Rattle.records.specs.Verdicts.{refusedUnless, orElse, firstRefusal}
 use Rattle.records.specs.Lists.{each}
 use Rattle.records.specs.declared.verdict.Verdict.{Verdict}
-use Rattle.records.proofs.VerdictLaws.{accepted-passes, first-cons, orElse-zero, orElse-pass}
+use Rattle.records.proofs.VerdictLaws.{first-cons, orElse-zero, orElse-pass}
 use Rattle.records.proofs.Every.{none, _also_}
-use Rattle.records.proofs.TestLaws.{lt-test, le-test, eq-test, absent-test, unless-passed, unless-passes, all-zero, NamesLowest, names-lowest}
+use Rattle.records.proofs.TestLaws.{Whole, whole-test, lt-test, le-test, eq-test, absent-test, unless-passed, unless-passes, all-zero, all-pass, NamesLowest, names-lowest, two-tests}
 use Rattle.machine.specs.declared.node.Node.{Node}
 use Rattle.machine.proofs.FieldLaws.{outputs-range, mask-range, channel-range, level-range, level-allowed}
 use Rattle.machine.proofs.StandLaws.{Leads, AbsentExits}
@@ -22,15 +22,7 @@ use Rattle.tables.specs.Tables.{cellAt, nextFault, cellFault, cellCount, isTabl
 pub next-accepted : (cells field next offset : ℕ)
     → (nextFault cells (not (eqb field 0)) next offset .number ≡ 0) ↔ ((next < cells) × (field ≡ 0 → next ≡ 0))
 unfolding nextFault
-next-accepted cells field next offset = (
-  λ e. (
-    unless-passed (lt-test next cells) _ _ (omega arith) (accepted-passes _ e 0),
-    unless-passed (absent-test field next) _ _ (omega arith) (accepted-passes _ e 1),
-  ),
-  λ h.
-      all-zero _
-      (unless-passes (lt-test next cells) _ _ (h .0) also unless-passes (absent-test field next) _ _ (h .1) also none),
-)
+next-accepted cells field next offset = two-tests (lt-test next cells) (absent-test field next) _ _ offset (λ z. omega arith) (λ z. omega arith)
 
 -- "Step at most 62, timeout at most 4000, next below the number of cells, and 0 where the exit is absent; the rest as in a sheet"
 pub record AcceptedCell (cells : ℕ) (cell : Node) : Type 0 where
@@ -49,20 +41,23 @@ pub cell-accepted : (cells : ℕ) (cell : Node) → (cellFault cells cell .numbe
 unfolding cellFault
 cell-accepted cells cell = (
   λ e.
-      let next-fault : (cell .faultto < cells) × (cell .mask ≡ 0 → cell .faultto ≡ 0) = next-accepted cells _ _ _ .0 (accepted-passes _ e 2) in
-      let next-sequence : (cell .sequenceto < cells) × (cell .channel ≡ 0 → cell .sequenceto ≡ 0) = next-accepted cells _ _ _ .0 (accepted-passes _ e 6) in
-      let next-timeout : (cell .timeoutto < cells) × (cell .timeout ≡ 0 → cell .timeoutto ≡ 0) = next-accepted cells _ _ _ .0 (accepted-passes _ e 8) in
-      record {
-        outputs = unless-passed (outputs-range _) _ _ (omega arith) (accepted-passes _ e 0);
-        mask = unless-passed (mask-range _) _ _ (omega arith) (accepted-passes _ e 1);
-        channel = unless-passed (channel-range _) _ _ (omega arith) (accepted-passes _ e 3);
-        level = unless-passed (level-range _) _ _ (omega arith) (accepted-passes _ e 4);
-        nolevel = unless-passed (level-allowed _ _) _ _ (omega arith) (accepted-passes _ e 5);
-        timeout = unless-passed (le-test _ _) _ _ (omega arith) (accepted-passes _ e 7);
-        step = unless-passed (le-test _ _) _ _ (omega arith) (accepted-passes _ e 9);
-        leads = record { fault = next-fault .0; sequence = next-sequence .0; timeout = next-timeout .0 };
-        absent = record { fault = next-fault .1; sequence = next-sequence .1; timeout = next-timeout .1 };
-      },
+      elim (all-pass _ e) [
+        | outputs also mask also fault also channel also level also nolevel also sequence also timeout also to also step also none ↦
+            let next-fault : (cell .faultto < cells) × (cell .mask ≡ 0 → cell .faultto ≡ 0) = next-accepted cells _ _ _ .0 fault in
+            let next-sequence : (cell .sequenceto < cells) × (cell .channel ≡ 0 → cell .sequenceto ≡ 0) = next-accepted cells _ _ _ .0 sequence in
+            let next-timeout : (cell .timeoutto < cells) × (cell .timeout ≡ 0 → cell .timeoutto ≡ 0) = next-accepted cells _ _ _ .0 to in
+            record {
+              outputs = unless-passed (outputs-range _) _ _ (omega arith) outputs;
+              mask = unless-passed (mask-range _) _ _ (omega arith) mask;
+              channel = unless-passed (channel-range _) _ _ (omega arith) channel;
+              level = unless-passed (level-range _) _ _ (omega arith) level;
+              nolevel = unless-passed (level-allowed _ _) _ _ (omega arith) nolevel;
+              timeout = unless-passed (le-test _ _) _ _ (omega arith) timeout;
+              step = unless-passed (le-test _ _) _ _ (omega arith) step;
+              leads = record { fault = next-fault .0; sequence = next-sequence .0; timeout = next-timeout .0 };
+              absent = record { fault = next-fault .1; sequence = next-sequence .1; timeout = next-timeout .1 };
+            }
+      ],
   λ h.
       all-zero _ (
       unless-passes (outputs-range _) _ _ (h .outputs) also
@@ -81,10 +76,8 @@ cell-accepted cells cell = (
 -- ---- a table
 
 -- "A table has 1 to 63 cells of 12 bytes"
-pub record TableLength (table : List ℕ) : Type 0 where
-  pub least : 12 ≤ length table
-  pub most : length table ≤ 756
-  pub whole : length table % 12 ≡ 0
+abbrev pub TableLength : List ℕ → Type 0
+TableLength table = Whole 12 (length table)
 
 -- the paper's conditions on a table
 pub record AcceptedTable (table : List ℕ) : Type 0 where
@@ -95,15 +88,7 @@ module _ (table : List ℕ) where
   -- the length
   pub length-accepted : (isTable table ≡ true) ↔ TableLength table
   unfolding isTable
-  length-accepted = (
-    λ e.
-        let outer = and-eq-true-iff _ _ .0 e in
-        let inner = and-eq-true-iff _ _ .0 (outer .0) in
-        record { least = le-test _ _ .0 (inner .0); most = le-test _ _ .0 (inner .1); whole = eq-test _ _ .0 (outer .1) },
-    λ h.
-        and-eq-true-iff _ _ .1
-        (and-eq-true-iff _ _ .1 (le-test _ _ .1 (h .least), le-test _ _ .1 (h .most)), eq-test _ _ .1 (h .whole)),
-  )
+  length-accepted = whole-test 12 (length table)
 
   cell-means : (k : ℕ) → (eqb (cellFault (cellCount table) (cellAt table k) .number) 0 ≡ true) ↔ AcceptedCell (cellCount table) (cellAt table k)
   cell-means k = (λ e. cell-accepted _ _ .0 (eq-test _ _ .0 e), λ a. eq-test _ _ .1 (cell-accepted _ _ .1 a))
@@ -118,11 +103,11 @@ module _ (table : List ℕ) where
       → (cellVerdict table k .number ≡ 0) ↔ (TableLength table × (k < cellCount table) × AcceptedCell (cellCount table) (cellAt table k))
   unfolding cellVerdict cellTests
   verdict-accepted k = (
-    λ e. (
-      unless-passed length-accepted _ _ (omega arith) (accepted-passes _ e 0),
-      unless-passed (lt-test _ _) _ _ (omega arith) (accepted-passes _ e 1),
-      fields-accepted k .0 (accepted-passes _ e 2),
-    ),
+    λ e.
+        elim (all-pass _ e) [
+          | size also below also fields also none ↦
+              (unless-passed length-accepted _ _ (omega arith) size, unless-passed (lt-test _ _) _ _ (omega arith) below, fields-accepted k .0 fields)
+        ],
     λ h.
         all-zero _ (
         unless-passes length-accepted _ _ (h .0) also
@@ -155,17 +140,7 @@ module _ (table : List ℕ) where
 
 -- ---- what follows from acceptance
 
--- twelve bytes a cell
-pub count-length : (table : List ℕ) → AcceptedTable table → 12 * cellCount table ≡ length table
-unfolding cellCount
-count-length table a = omega arith
-
--- at least one
+-- at least one cell
 pub count-least : (table : List ℕ) → AcceptedTable table → 1 ≤ cellCount table
 unfolding cellCount
 count-least table a = omega arith
-
--- and 63 at most
-pub count-most : (table : List ℕ) → AcceptedTable table → cellCount table ≤ 63
-unfolding cellCount
-count-most table a = omega arith

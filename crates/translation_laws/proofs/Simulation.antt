@@ -13,8 +13,9 @@ use Rattle.machine.proofs.StandLaws.{Stands, state-path, after-fault, after-seq
 use Rattle.steps.specs.Steps.{stepAt, stepCount}
 use Rattle.sheets.specs.Sheets.{nodeAt}
 use Rattle.translator.specs.Translation.{cellsFor, cellsOf, firstCell, cellTotal, cutAt}
-use Rattle.translator.proofs.CellCounts.{cells-0, cells-enough, first-past}
+use Rattle.translator.proofs.CellCounts.{cells-0, cells-enough}
 use Rattle.translator.proofs.CutLaws.{last-timeout, last-to, inner-timeout, inner-to}
+use Rattle.translator.proofs.CutLeads.{step-within}
 
 -- ---- the table's state for a sheet's state
 
@@ -201,9 +202,9 @@ module _ (sheet : List ℕ) (cells : ℕ → Node) (cut : Cells sheet cells) (st
 
   -- and stands in the table
   pub state-follows : Stands cells (cellTotal sheet) (tableState sheet state)
-  unfolding tableState cellTotal
+  unfolding tableState
   state-follows =
       record {
-        within = omega (arith, cut-within sheet state stands, first-past sheet (state .at) (stepCount sheet) (stands .within));
+        within = omega (arith, cut-within sheet state stands, step-within sheet (state .at) (stands .within));
         early = subst (λ (n : Node). state .elapsed % 4000 < max 1 (n .timeout)) (sym here) (cut-early sheet state stands);
       }

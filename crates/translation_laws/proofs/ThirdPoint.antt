@@ -13,15 +13,15 @@ use Rattle.tables.specs.Tables.{cellAt, tableVerdict}
 use Rattle.steps.specs.Steps.{stepCount}
 use Rattle.sheets.specs.Sheets.{sheetVerdict, nodeAt}
 use Rattle.sheets.proofs.AcceptedSheet.{sheet-accepted}
-use Rattle.engine.specs.Engine.{tableStateVerdict, sheetStateVerdict, shownAs, tableTicked, sheetTicked, tableShown, sheetShown}
-use Rattle.engine.specs.Runs.{ticksFrom, sheetRun, tableRun}
+use Rattle.engine.specs.Engine.{Form, Sheet, Table, tableStateVerdict, sheetStateVerdict, shownAs, ticked, tableTicked, sheetTicked, shownAt}
+use Rattle.engine.specs.Runs.{ticksFrom, runOf, sheetRun, tableRun}
 use Rattle.engine.specs.declared.answer.Ticked.{Ticked}
 use Rattle.translator.specs.Translation.{cellTotal, tableOf, translation, translated}
 use Rattle.translation_laws.proofs.Simulation.{tableState, start-follows, tick-follows, outputs-follow, step-follows, state-follows}
 use Rattle.translator.proofs.CutBytes.{table-cell}
 use Rattle.translation_laws.proofs.TranslatedTable.{translated-passes, table-count}
-use Rattle.translation_laws.proofs.StateKept.{answered-shown, sheet-state, sheet-start, sheet-taken, sheet-kept, table-state, table-start, table-taken}
-use Rattle.translation_laws.proofs.TranslationLaws.{verdict-accepted, written-table}
+use Rattle.translation_laws.proofs.StateKept.{answered-shown, state-stands, start-accepted, taken, kept}
+use Rattle.translation_laws.proofs.TranslationLaws.{translation-accepted, written-table}
 
 -- what an answer shows: "outputs and step"
 abbrev pub shown : Ticked → ℕ × ℕ
@@ -30,11 +30,11 @@ shown answer = (answer .outputs, answer .step)
 -- the sheet's answers and the table's show the same, and every one of both is accepted
 pub record SameRun (sheets tables : List Ticked) : Type 0 where
   pub same : map shown sheets ≡ map shown tables
-  pub sheet : Every (λ answer. answer .number ≡ 0) sheets
-  pub table : Every (λ answer. answer .number ≡ 0) tables
+  pub sheet : Every (λ answer. answer .verdict .number ≡ 0) sheets
+  pub table : Every (λ answer. answer .verdict .number ≡ 0) tables
 
 -- one answer more
-same-more : (a b : Ticked) (sheets tables : List Ticked) → a .number ≡ 0 → b .number ≡ 0 → a .outputs ≡ b .outputs → a .step ≡ b .step
+same-more : (a b : Ticked) (sheets tables : List Ticked) → a .verdict .number ≡ 0 → b .verdict .number ≡ 0 → a .outputs ≡ b .outputs → a .step ≡ b .step
     → SameRun sheets tables → SameRun (a ∷ sheets) (b ∷ tables)
 same-more a b sheets tables p q o s run =
     record {
@@ -51,12 +51,12 @@ module _ (sheet : List ℕ) (good : sheetVerdict sheet .number ≡ 0) (few : cel
 
   module _ (state : State) (ok : sheetStateVerdict sheet state .number ≡ 0) where
     stands : Stands (nodeAt sheet) (stepCount sheet) state
-    stands = sheet-state sheet state .0 ok .1
+    stands = state-stands Sheet sheet good state .0 ok
 
     -- the table's state for an accepted state of the sheet is accepted
     pub state-accepted : tableStateVerdict (tableOf sheet) (tableState sheet state) .number ≡ 0
     state-accepted =
-        table-state (tableOf sheet) passes (tableState sheet state) .1
+        state-stands Table (tableOf sheet) passes (tableState sheet state) .1
         (subst (λ (n : ℕ). Stands (cellAt (tableOf sheet)) n (tableState sheet state)) (sym (table-count sheet (sheet-accepted sheet .0 good)))
         (state-follows sheet (cellAt (tableOf sheet)) (table-cell sheet) state stands))
 
@@ -81,23 +81,23 @@ module _ (sheet : List ℕ) (good : sheetVerdict sheet .number ≡ 0) (few : cel
   ticks-same [] none state ok = record { same = refl; sheet = none; table = none }
   ticks-same (word ∷ words) (below also rest) state ok =
       let next : State = tickOn (nodeAt sheet) word state in
-      let kept : sheetStateVerdict sheet next .number ≡ 0 = sheet-kept sheet state word ok in
+      let next-ok : sheetStateVerdict sheet next .number ≡ 0 = kept Sheet sheet good state word ok in
       subst₂ (λ (a b : Ticked). SameRun (a ∷ ticksFrom (sheetTicked sheet) (a .state) words) (b ∷ ticksFrom (tableTicked (tableOf sheet)) (b .state) words))
-      (sym (sheet-taken sheet state word ok below))
+      (sym (taken Sheet sheet state word ok below))
       (sym
-      (table-taken (tableOf sheet) (tableState sheet state) word (state-accepted state ok) below
+      (taken Table (tableOf sheet) (tableState sheet state) word (state-accepted state ok) below
       ∙ ap (λ (t : State). shownAs t (cellAt (tableOf sheet) (t .at))) (tick-same state ok word)))
-      (same-more _ _ _ _ refl refl (outputs-same next kept) (step-same next kept) (ticks-same words rest next kept))
+      (same-more _ _ _ _ refl refl (outputs-same next next-ok) (step-same next next-ok) (ticks-same words rest next next-ok))
 
   -- from the start
   pub runs-same : (words : List ℕ) → Every (λ word. word < 1024) words → SameRun (sheetRun sheet words) (tableRun (tableOf sheet) words)
-  unfolding sheetRun tableRun sheetShown tableShown
+  unfolding runOf shownAt
   runs-same words below =
-      let start = sheet-start sheet good in
+      let start = start-accepted Sheet sheet good in
       subst₂ SameRun
-      (ap (λ (a : Ticked). a ∷ ticksFrom (sheetTicked sheet) startState words) (sym (answered-shown _ (nodeAt sheet) startState startState start)))
+      (ap (λ (a : Ticked). a ∷ ticksFrom (sheetTicked sheet) startState words) (sym (answered-shown _ startState (nodeAt sheet 0) start)))
       (ap (λ (b : Ticked). b ∷ ticksFrom (tableTicked (tableOf sheet)) startState words)
-      (sym (answered-shown _ (cellAt (tableOf sheet)) startState startState (table-start (tableOf sheet) passes))))
+      (sym (answered-shown _ startState (cellAt (tableOf sheet) 0) (start-accepted Table (tableOf sheet) passes))))
       (subst (λ (t : State). SameRun (shownAs startState (nodeAt sheet 0) ∷ ticksFrom (sheetTicked sheet) startState words) (shownAs t (cellAt (tableOf sheet) (t .at)) ∷ ticksFrom (tableTicked (tableOf sheet)) t words))
       (start-follows sheet)
       (same-more _ _ _ _ refl refl (outputs-same startState start) (step-same startState start) (ticks-same words below startState start)))
@@ -108,20 +108,14 @@ unfolding ticksFrom
 ticks-length tick [] state = refl
 ticks-length tick (word ∷ words) state = ap suc (ticks-length tick words (tick state word .state))
 
--- so has the sheet's
-pub sheet-length : (sheet words : List ℕ) → length (sheetRun sheet words) ≡ 1 + length words
-unfolding sheetRun
-sheet-length sheet words = omega (arith, ticks-length (sheetTicked sheet) words startState)
-
--- and the table's
-pub table-length : (table words : List ℕ) → length (tableRun table words) ≡ 1 + length words
-unfolding tableRun
-table-length table words = omega (arith, ticks-length (tableTicked table) words startState)
+pub run-length : (form : Form) (bytes words : List ℕ) → length (runOf form bytes words) ≡ 1 + length words
+unfolding runOf
+run-length form bytes words = omega (arith, ticks-length (ticked form bytes) words startState)
 
 -- "start the sheet at its first step and its table at cell 0": for every sheet that translates, every buffer and every list of words below 1024, the empty list too
-pub third-point : (sheet buffer words : List ℕ) → translation sheet buffer .number ≡ 0 → Every (λ word. word < 1024) words
+pub third-point : (sheet buffer words : List ℕ) → translation sheet buffer .verdict .number ≡ 0 → Every (λ word. word < 1024) words
     → SameRun (sheetRun sheet words) (tableRun (take (12 * translation sheet buffer .cells) (translated sheet buffer)) words)
-unfolding translation
 third-point sheet buffer words e below =
-    let all = verdict-accepted sheet (length buffer) .0 e in
-    subst (λ (table : List ℕ). SameRun (sheetRun sheet words) (tableRun table words)) (sym (written-table sheet buffer e)) (runs-same sheet (all .0) (all .1) words below)
+    let all = translation-accepted sheet buffer .0 e in
+    subst (λ (table : List ℕ). SameRun (sheetRun sheet words) (tableRun table words)) (sym (written-table sheet buffer e))
+    (runs-same sheet (sheet-accepted sheet .1 (all .0)) (all .1) words below)

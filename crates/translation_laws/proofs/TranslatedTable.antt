@@ -10,18 +10,14 @@ use Rattle.tables.specs.Tables.{cellAt, cellCount, tableVerdict}
 use Rattle.translation_laws.proofs.AcceptedTable.{AcceptedCell, AcceptedTable, table-accepted}
 use Rattle.steps.specs.Steps.{stepAt, stepCount}
 use Rattle.sheets.specs.Sheets.{nodeAt, sheetVerdict}
-use Rattle.sheets.proofs.AcceptedSheet.{AcceptedSheet, sheet-accepted, node-leads, node-absent, count-least, count-most}
+use Rattle.sheets.proofs.AcceptedSheet.{AcceptedSheet, sheet-accepted, node-absent, count-least, count-most}
 use Rattle.translator.specs.Translation.{cellsOf, firstCell, cellTotal, cutAt, tableOf}
-use Rattle.translator.proofs.CellCounts.{cells-enough, cells-fewest, first-zero, first-past, first-rises, cell-owner}
-use Rattle.translator.proofs.CutLaws.{last-timeout, last-to, inner-timeout, inner-to}
+use Rattle.translator.proofs.CellCounts.{cells-enough, cells-fewest, first-zero, cell-owner}
+use Rattle.translator.proofs.CutLaws.{last-timeout, last-to, inner-timeout}
+use Rattle.translator.proofs.CutLeads.{first-within, cut-leads}
 use Rattle.translator.proofs.CutBytes.{table-length, table-cell}
 
 module _ (sheet : List ℕ) (a : AcceptedSheet sheet) where
-  -- the first cell of a step of the sheet is one of the table's
-  first-within : (i : ℕ) → i < stepCount sheet → firstCell sheet i < cellTotal sheet
-  unfolding cellTotal
-  first-within i h = first-rises sheet i (stepCount sheet) h
-
   -- the first cell of step 0 is cell 0
   first-absent : (i : ℕ) → i ≡ 0 → firstCell sheet i ≡ 0
   first-absent i z = ap (firstCell sheet) z ∙ first-zero sheet
@@ -34,14 +30,6 @@ module _ (sheet : List ℕ) (a : AcceptedSheet sheet) where
         elim (ℕ-discrete (j + 1) (cellsOf sheet i)) [
           | yes e ↦ omega (arith, last-timeout sheet i j e, cells-enough (stepAt sheet i .timeout))
           | no e ↦ omega (arith, inner-timeout sheet i j e)
-        ]
-
-    cut-to : cutAt sheet i j .timeoutto < cellTotal sheet
-    unfolding cellTotal
-    cut-to =
-        elim (ℕ-discrete (j + 1) (cellsOf sheet i)) [
-          | yes e ↦ subst (λ (n : ℕ). n < firstCell sheet (stepCount sheet)) (sym (last-to sheet i j e)) (first-rises sheet _ _ (node-leads sheet a i h .timeout))
-          | no e ↦ omega (arith, inner-to sheet i j e, first-past sheet i (stepCount sheet) h)
         ]
 
     cut-absent : cutAt sheet i j .timeout ≡ 0 → cutAt sheet i j .timeoutto ≡ 0
@@ -65,25 +53,20 @@ module _ (sheet : List ℕ) (a : AcceptedSheet sheet) where
     cut-accepted =
         let step = a .steps i h in
         record {
-          outputs = step .outputs;
-          mask = step .mask;
-          channel = step .channel;
-          level = step .level;
-          nolevel = step .nolevel;
-          timeout = cut-timeout;
           step = omega (arith, count-most sheet);
-          leads =
-              record {
-                fault = first-within _ (node-leads sheet a i h .fault);
-                sequence = first-within _ (node-leads sheet a i h .sequence);
-                timeout = cut-to;
-              };
+          timeout = cut-timeout;
+          leads = cut-leads sheet a i j h k;
           absent =
               record {
                 fault = λ z. first-absent _ (node-absent sheet a i h .fault z);
                 sequence = λ z. first-absent _ (node-absent sheet a i h .sequence z);
                 timeout = cut-absent;
               };
+          outputs = step .outputs;
+          mask = step .mask;
+          channel = step .channel;
+          level = step .level;
+          nolevel = step .nolevel;
         }
 
   -- ---- the table
@@ -94,7 +77,7 @@ module _ (sheet : List ℕ) (a : AcceptedSheet sheet) where
   table-count = omega (arith, table-length sheet)
 
   total-least : 1 ≤ cellTotal sheet
-  total-least = omega (arith, first-within 0 (count-least sheet a))
+  total-least = omega (arith, first-within sheet 0 (count-least sheet a))
 
   each-cell : (k : ℕ) → k < cellTotal sheet → AcceptedCell (cellTotal sheet) (cellAt (tableOf sheet) k)
   unfolding cellTotal

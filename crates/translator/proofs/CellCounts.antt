@@ -49,11 +49,6 @@ pub cells-fewest : (timeout : ℕ) → 0 < timeout → 4000 * (cellsFor timeout 
 unfolding cellsFor
 cells-fewest timeout h = omega arith
 
--- the longest wait takes ten cells
-pub cells-most : (timeout : ℕ) → timeout ≤ 40000 → cellsFor timeout ≤ 10
-unfolding cellsFor
-cells-most timeout h = omega arith
-
 -- ---- the first cell of a step
 
 module _ (sheet : List ℕ) where
@@ -74,10 +69,6 @@ module _ (sheet : List ℕ) where
         | yes e ↦ subst (λ (k : ℕ). firstCell sheet i + cellsOf sheet i ≤ firstCell sheet (suc k)) e (omega (arith, first-suc i))
         | no e ↦ omega (arith, first-suc j, first-past i j (omega arith))
       ]
-
-  -- first cells rise strictly
-  pub first-rises : (i j : ℕ) → i < j → firstCell sheet i < firstCell sheet j
-  first-rises i j h = omega (arith, first-past i j h, cells-least (stepAt sheet i .timeout))
 
   -- every cell below the first cell of step n is a cell of a step before n
   pub cell-owner : (n k : ℕ) → k < firstCell sheet n

@@ -1,7 +1,7 @@
 -- The bytes of a translated table: how many there are, and which cell stands where. Assumes nothing.
 use Prim.Native.Nat.{ℕ, zero, suc, _+_, _-_, _*_, _<_}
 use mathlib.Core.Path.{_≡_, refl, ap, sym, _∙_}
-use mathlib.Core.List.{List, [], _++_, append-assoc, append-nil}
+use mathlib.Core.List.{List, _++_, append-assoc}
 use native.Mathlib.Nat.{zero-add}
 use native.Mathlib.Numerals.{add-one}
 use native.Mathlib.Omega.{arith}
@@ -55,16 +55,8 @@ module _ (sheet : List ℕ) where
       (pieces-at (λ m. cellBytes (cutAt sheet i m)) (cellsOf sheet i) j k)
       ∙ simp append-assoc
 
-  -- cell j of step i stands j past the step's first cell, whatever bytes follow the table
-  pub cell-at : (rest : List ℕ) (i j : ℕ) → i < stepCount sheet → j < cellsOf sheet i
-      → cellAt (tableOf sheet ++ rest) (firstCell sheet i + j) ≡ cutAt sheet i j
-  cell-at rest i j h k =
-      ap (λ (bytes : List ℕ). cellAt (bytes ++ rest) (firstCell sheet i + j)) (table-split i j h k)
-      ∙ ap (λ (bytes : List ℕ). cellAt bytes (firstCell sheet i + j))
-      (append-assoc (before i j) (cellBytes (cutAt sheet i j) ++ behind i j) rest
-      ∙ ap (λ (bytes : List ℕ). before i j ++ bytes) (append-assoc (cellBytes (cutAt sheet i j)) (behind i j) rest))
-      ∙ cell-read (before i j) (cutAt sheet i j) (behind i j ++ rest) (firstCell sheet i + j) (before-length i j)
-
-  -- and where none follow
+  -- cell j of step i stands j past the step's first cell
   pub table-cell : (i j : ℕ) → i < stepCount sheet → j < cellsOf sheet i → cellAt (tableOf sheet) (firstCell sheet i + j) ≡ cutAt sheet i j
-  table-cell i j h k = ap (λ (bytes : List ℕ). cellAt bytes (firstCell sheet i + j)) (sym (append-nil (tableOf sheet))) ∙ cell-at [] i j h k
+  table-cell i j h k =
+      ap (λ (bytes : List ℕ). cellAt bytes (firstCell sheet i + j)) (table-split i j h k)
+      ∙ cell-read (before i j) (cutAt sheet i j) (behind i j) (firstCell sheet i + j) (before-length i j)

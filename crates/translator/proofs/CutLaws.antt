@@ -10,6 +10,7 @@ use native.Mathlib.Omega.{arith}
 use Rattle.machine.specs.declared.node.Node.{Node}
 use Rattle.steps.specs.Steps.{stepAt}
 use Rattle.sheets.specs.Sheets.{nodeAt}
+use Rattle.translator.specs.Cuts.{before}
 use Rattle.translator.specs.Translation.{cellsOf, firstCell, lastCut, cutAt}
 
 module _ (sheet : List ℕ) (i j : ℕ) where
@@ -32,21 +33,6 @@ module _ (sheet : List ℕ) (i j : ℕ) where
   pub inner-to : (j + 1 ≡ cellsOf sheet i → ⊥) → cutAt sheet i j .timeoutto ≡ firstCell sheet i + j + 1
   unfolding cutAt lastCut
   inner-to e = rw (ne-eqb _ _ e)
-
--- a cell before the last, from the last
-abbrev pub before : Node → ℕ → Node
-before last following =
-    record {
-      outputs = last .outputs;
-      mask = last .mask;
-      faultto = last .faultto;
-      channel = last .channel;
-      level = last .level;
-      sequenceto = last .sequenceto;
-      timeout = 4000;
-      timeoutto = following;
-      step = last .step;
-    }
 
 -- every cell of a step, from its last
 pub cut-from : (sheet : List ℕ) (i j cells following : ℕ) (last cell : Node) → cells ≡ cellsOf sheet i → 1 ≤ cells → last ≡ cutAt sheet i (cells - 1)

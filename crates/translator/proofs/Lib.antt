@@ -1,6 +1,6 @@
 pub mod CellCounts
 pub mod CutLaws
 pub mod CutBytes
-pub mod CutFits
+pub mod CutLeads
 pub mod VerdictLaws
 pub mod WriteLaws

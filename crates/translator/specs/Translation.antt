@@ -76,8 +76,7 @@ translationVerdict sheet room =
 unfoldable pub translation : List ℕ → List ℕ → Translation
 translation sheet buffer =
     record {
-      number = translationVerdict sheet (length buffer) .number;
-      place = translationVerdict sheet (length buffer) .place;
+      verdict = translationVerdict sheet (length buffer);
       cells = cond (eqb (translationVerdict sheet (length buffer) .number) 0) (cellTotal sheet) 0;
     }
 

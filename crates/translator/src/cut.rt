@@ -6,6 +6,7 @@ ghost use Prim.Native.Nat.{_+_, _<_, _≤_};
 ghost use mathlib.Core.Bool.{cond};
 ghost use mathlib.Core.Path.{_≡_};
 ghost use Rattle.translator.specs.Translation.{cutAt, cellsOf, cellTotal};
+ghost use Rattle.translator.specs.Cuts.{before};
 ghost use Rattle.steps.specs.Steps.{stepCount};
 ghost use Rattle.sheets.specs.Sheets.{sheetVerdict};
 
@@ -24,34 +25,24 @@ pub(crate) fn last_cut(sheet: &[u8], i: u8, j: u16) -> Node
     let sequenceto = first_cell(sheet, step.sequenceto) as u8;
     let timeoutto = first_cell(sheet, step.timeoutto) as u8;
     Node {
-        outputs: step.outputs,
-        mask: step.mask,
         faultto,
-        channel: step.channel,
-        level: step.level,
         sequenceto,
         timeout,
         timeoutto,
-        step: i,
+        ..step
     }
 }
 
 // The last cell itself, or one before it: that waits 4000 ticks and goes to the following cell.
 pub(crate) fn cut(last: Node, following: u8, is_last: bool) -> Node
-    ensures { λ r. ⌜ r ≡ cond «is_last» last (record { outputs = last .outputs; mask = last .mask; faultto = last .faultto; channel = last .channel; level = last .level; sequenceto = last .sequenceto; timeout = 4000; timeoutto = following; step = last .step }) ⌝ }
+    ensures { λ r. ⌜ r ≡ cond «is_last» last (before last following) ⌝ }
 {
     if is_last {
         return last;
     }
     Node {
-        outputs: last.outputs,
-        mask: last.mask,
-        faultto: last.faultto,
-        channel: last.channel,
-        level: last.level,
-        sequenceto: last.sequenceto,
         timeout: 4000,
         timeoutto: following,
-        step: last.step,
+        ..last
     }
 }

@@ -1,29 +1,25 @@
 // Every test first; then the cells, each into the part lent for it.
-use crate::cells::cells_for;
+use crate::cells::cells_of;
 use crate::cells::first_cell;
 use crate::cut::cut;
 use crate::cut::last_cut;
 use records::NO_ROOM;
 use records::TOO_MANY_CELLS;
 use records::Verdict;
-use records::refuse_unless;
 use sheets::sheet_verdict;
-use steps::step_at;
 use steps::step_count;
 use tables::write_cell;
 ghost use Prim.Native.Nat.{_≤_, _<_, _*_, _+_};
 ghost use mathlib.Core.Path.{_≡_};
 ghost use mathlib.Core.List.{_++_};
 ghost use lib.ListN.{length, take, drop};
-ghost use Rattle.records.specs.Lists.{each, pieces};
 ghost use Rattle.steps.specs.Steps.{stepCount};
 ghost use Rattle.sheets.specs.Sheets.{sheetVerdict};
 ghost use Rattle.translator.specs.Translation.{translationVerdict, translation, translated, tableOf, cellTotal, firstCell, cellsOf, stepBytes};
 
 // How many cells were written, with number 0; or the refusal, with no cell.
 pub struct Translation {
-    pub number: u8,
-    pub place: usize,
+    pub verdict: Verdict,
     pub cells: u8,
 }
 
@@ -34,35 +30,22 @@ pub fn translate(sheet: &[u8], table: &mut [u8]) -> Translation
 {
     let verdict = translation_verdict(sheet, table.len());
     if verdict.number != 0 {
-        return Translation {
-            number: verdict.number,
-            place: verdict.place,
-            cells: 0,
-        };
+        return Translation { verdict, cells: 0 };
     }
     write_steps(sheet, table);
     let cells = first_cell(sheet, step_count(sheet)) as u8;
-    Translation {
-        number: verdict.number,
-        place: verdict.place,
-        cells,
-    }
+    Translation { verdict, cells }
 }
 
 // The sheet's tests, then cells, then room.
 fn translation_verdict(sheet: &[u8], room: usize) -> Verdict
     ensures { λ r. ⌜ r ≡ translationVerdict (now (sheet .entry)) room ⌝ }
 {
-    let refusal = sheet_verdict(sheet);
-    if refusal.number != 0 {
-        return refusal;
-    }
     let cells = first_cell(sheet, step_count(sheet)) as usize;
     let bytes = 12 * cells;
-    if cells > 63 {
-        return refuse_unless(false, TOO_MANY_CELLS, 0);
-    }
-    refuse_unless(bytes <= room, NO_ROOM, 0)
+    sheet_verdict(sheet)
+        .unless(cells <= 63, TOO_MANY_CELLS, 0)
+        .unless(bytes <= room, NO_ROOM, 0)
 }
 
 fn write_steps(sheet: &[u8], table: &mut [u8])
@@ -73,13 +56,10 @@ fn write_steps(sheet: &[u8], table: &mut [u8])
 {
     let steps = step_count(sheet);
     let mut first = 0;
-    let mut i = 0;
-    while i < steps {
-        let step = step_at(sheet, i);
-        let cells = cells_for(step.timeout);
+    for i in 0..steps {
+        let cells = cells_of(sheet, i);
         write_step(sheet, i, first, cells, table);
         first += cells;
-        i += 1;
     }
 }
 
@@ -94,11 +74,9 @@ fn write_step(sheet: &[u8], i: u8, first: u16, cells: u16, table: &mut [u8])
     ensures { λ _. ⌜ now (table .exit) ≡ take (12 * first) (now (table .entry)) ++ (stepBytes (now (sheet .entry)) i ++ drop (12 * (first + cells)) (now (table .entry))) ⌝ }
 {
     let last = last_cut(sheet, i, cells - 1);
-    let mut j = 0;
-    while j < cells {
+    for j in 0..cells {
         let at = 12 * ((first + j) as usize);
         let cell = cut(last, (first + j + 1) as u8, j + 1 == cells);
         write_cell(cell, &mut table[at..at + 12]);
-        j += 1;
     }
 }

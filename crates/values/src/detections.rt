@@ -21,7 +21,7 @@ fn try_read(name: &[u8], one: u8, seven: u8, length: usize) {
     image[7] = seven;
     if length <= 80 {
         let reading = reading::read(&image[0..length]);
-        print_verdict(name, reading.number, reading.place);
+        print_verdict(name, reading.verdict);
     }
 }
 
@@ -36,7 +36,7 @@ pub(crate) fn try_write_order() {
 
 fn try_write(name: &[u8], hysteresis: u8, buffer: &mut [u8]) {
     let verdict = writing::write(driving(hysteresis), buffer);
-    print_verdict(name, verdict.number, verdict.place);
+    print_verdict(name, verdict);
 }
 
 // The settings of the blank image, but that the engine drives PDO1, and a hysteresis on VP1.
@@ -71,7 +71,7 @@ fn try_tick(name: &[u8], hysteresis: u8, count: u16, levels: u8, length: usize) 
         let detected = detectors::tick(driving(hysteresis), counted(count), &frame[0..length]);
         let faults = detected.faults;
         let warnings = detected.warnings;
-        print_items(name, detected.number, detected.place, faults, warnings);
+        print_items(name, detected.verdict, faults, warnings);
     }
 }
 
@@ -84,5 +84,5 @@ pub(crate) fn try_pin_order() {
 
 fn try_pins(name: &[u8], hysteresis: u8, outputs: u16) {
     let driven = pins::pins(driving(hysteresis), outputs);
-    print_item(name, driven.number, driven.place, driven.pins);
+    print_item(name, driven.verdict, driven.pins);
 }

@@ -11,8 +11,8 @@ pub(crate) fn try_words() {
     tick_sheet(b"sheet, word 1024:", 6, 1008, state(0, 0), 1024);
 }
 
-fn state(at: u8, elapsed: u16) -> State {
-    State { at, elapsed }
+fn state(at: u8, elapsed: u8) -> State {
+    states::state_from(&[at, 0, elapsed, 0, 0, 0, 0, 0])
 }
 
 // Length, the cell's number, that cell, elapsed, word.

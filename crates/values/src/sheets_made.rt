@@ -7,10 +7,8 @@ pub(crate) const LONGEST: usize = 1040;
 // rest one.
 pub(crate) fn waits() -> [u8; 1040] {
     let mut sheet = [0u8; LONGEST];
-    let mut k = 0;
-    while k < 65 {
+    for k in 0..65 {
         write_step(&mut sheet, k, if k < 6 { 40000 } else { 1 });
-        k += 1;
     }
     sheet
 }
@@ -41,10 +39,10 @@ pub(crate) fn faulty() -> [u8; 1040] {
 pub(crate) fn mended(steps: usize) -> [u8; 1040] {
     let good = waits();
     let mut sheet = faulty();
-    let mut i = 0;
-    while i < 1040 && i / 16 < steps {
-        sheet[i] = good[i];
-        i += 1;
+    for i in 0..1040 {
+        if i / 16 < steps {
+            sheet[i] = good[i];
+        }
     }
     sheet
 }

@@ -19,7 +19,7 @@ fn try_length(name: &[u8], length: usize) {
     let sheet = waits();
     if length <= 1040 {
         let verdict = sheets::sheet_verdict(&sheet[0..length]);
-        print_verdict(name, verdict.number, verdict.place);
+        print_verdict(name, verdict);
     }
 }
 
@@ -41,6 +41,6 @@ fn translate_into(name: &[u8], steps: usize, length: usize, room: usize) {
     if length <= 1040 && room <= 756 {
         let translation = translator::translate(&sheet[0..length], &mut table[0..room]);
         let cells = translation.cells as u16;
-        print_item(name, translation.number, translation.place, cells);
+        print_item(name, translation.verdict, cells);
     }
 }

@@ -9,9 +9,8 @@ pub fn copy(bytes: &[u8], part: &mut [u8])
     if part.len() != bytes.len() {
         return;
     }
-    let mut i = 0;
-    while i < bytes.len() {
+    let count = bytes.len();
+    for i in 0..count {
         part[i] = bytes[i];
-        i += 1;
     }
 }

@@ -10,7 +10,6 @@ use lib.Dec.{eqb}
 use lib.ListN.{length, getD, drop, drop-of-length-le}
 use lib.Seq.{drop-cons}
 use Rattle.records.specs.Bits.{joined}
-use Rattle.records.specs.Numbers.{out-of-range}
 use Rattle.records.proofs.BitLaws.{joined-sum}
 use Rattle.image.specs.Codes.{codeNumber, lookupFrom, lookup, faultCode, sourceCode, pullCode}
 use Rattle.writing.specs.Writing.{beside, flag, codeVerdict}
@@ -95,7 +94,3 @@ beside-joined high low rest room below = ap Is (sym (joined-sum high low rest ro
 pub code-passes : (code : Code) (address : ℕ) → codeNumber code ≡ 0 → codeVerdict code address .number ≡ 0
 code-passes (Is c) address h = refl
 code-passes Lacking address h = h
-
-pub code-refuses : (code : Code) (address : ℕ) → (codeVerdict code address .number ≡ 0 → ⊥) → codeVerdict code address .number ≡ out-of-range
-code-refuses (Is c) address h = absurd (h refl)
-code-refuses Lacking address h = refl

@@ -1,25 +1,23 @@
 -- Laws of writing: the byte that means a setting, the tests of one group in their order, and the settings group by group. Assumes nothing.
 use Prim.Native.Nat.{ℕ, _+_, _*_, _^_, _≤_, _<_}
 use mathlib.Core.Path.{_≡_, refl, ap, ap₂, sym, _∙_}
-use mathlib.Core.Bool.{false}
 use mathlib.Core.List.{List, [], _∷_}
-use native.Mathlib.Decide.{ℕ-discrete}
 use native.Mathlib.Omega.{arith}
 use borrow.Author.Count.{below-none, below-more}
 use borrow.Author.Tests.{eq-eqb, ne-eqb, le-leb, lt-leb}
 use lib.Dec.{eqb}
-use lib.ListN.{length, getD}
+use lib.ListN.{length, getD, replicate}
 use Rattle.records.specs.Bits.{joined}
 use Rattle.records.specs.Lists.{each}
 use Rattle.records.specs.Numbers.{wrong-length, out-of-range}
-use Rattle.records.specs.Verdicts.{accepted, refusedUnless, orElse, firstRefusal}
+use Rattle.records.specs.Verdicts.{accepted, refused, refusedUnless, orElse, firstRefusal}
 use Rattle.records.specs.declared.verdict.Verdict.{Verdict}
 use Rattle.records.proofs.BitLaws.{joined-sum}
 use Rattle.records.proofs.ListLaws.{getD-default, each-ext, each-record}
-use Rattle.records.proofs.VerdictLaws.{orElse-pass, orElse-hit, first-cons, first-one, first-accepted, tests-accepted, accepted-tests, lowest-shows, each-number, first-records}
+use Rattle.records.proofs.VerdictLaws.{orElse-pass, orElse-hit, first-cons, first-one, first-accepted, tests-accepted, accepted-tests, lowest-shows, first-records}
 use Rattle.image.specs.Codes.{codeNumber, codeValue, lookup, times, pulses, faultCode, inputCode, sourceCode, pullCode}
 use Rattle.image.specs.Reading.{zeroGroup}
-use Rattle.writing.specs.Writing.{beside, flag, hysteresisByte, timingByte, pinLogicByte, logicByte, outputByte, groupBytes, settingByte, codeVerdict, settingsVerdict, writeVerdict, imageOf, written, groupVerdict, refusedAt, encoded}
+use Rattle.writing.specs.Writing.{beside, flag, hysteresisByte, timingByte, pinLogicByte, logicByte, outputByte, groupBytes, settingByte, codeVerdict, settingsVerdict, writeVerdict, imageOf, written, groupVerdict, encoded}
 use Rattle.image.specs.declared.codes.Code.{Code}
 use Rattle.image.specs.declared.codes.Code.the-variants.{Is, Lacking}
 use Rattle.image.specs.declared.settings.Group.{Group}
@@ -27,7 +25,7 @@ use Rattle.image.specs.declared.settings.Logic.{Logic}
 use Rattle.image.specs.declared.settings.Output.{Output}
 use Rattle.image.specs.declared.settings.Settings.{Settings}
 use Rattle.writing.specs.declared.encoder.Encoded.{Encoded}
-use Rattle.writing.proofs.CodeLaws.{lookup-lt, flag-lt, fault-lt, source-lt, pull-lt, beside-joined, code-passes, code-refuses}
+use Rattle.writing.proofs.CodeLaws.{lookup-lt, flag-lt, fault-lt, source-lt, pull-lt, beside-joined, code-passes}
 
 -- ---- the byte that means a setting
 pub hysteresis-is : (hysteresis : ℕ) → hysteresis ≤ 31 → hysteresisByte hysteresis ≡ Is hysteresis
@@ -83,6 +81,10 @@ module _ (logic : Logic) where
   delay-lacks pulse p d = ap₂ pinned p d
 
 -- ---- the tests of one group
+-- what the encoder answers for a setting that the byte at an address cannot mean
+abbrev refusedAt : ℕ → Encoded
+refusedAt address = record { verdict = refused out-of-range address; bytes = replicate 8 0 }
+
 -- the code of byte j
 abbrev pub codeAt : ℕ → Group → ℕ → Code
 codeAt k group j = getD (groupBytes k group) j Lacking
@@ -109,7 +111,7 @@ module _ (k : ℕ) (group : Group) where
   unfolding encoded
   refused-at j h before lacks = rw (verdict-at j h before lacks)
 
-  all-coded : Coded k group 8 → _≡_ {A = Encoded} (record { number = 0; place = 0; bytes = each (λ j. codeValue (codeAt k group j)) 0 8 }) (encoded k group)
+  all-coded : Coded k group 8 → _≡_ {A = Encoded} (record { verdict = accepted; bytes = each (λ j. codeValue (codeAt k group j)) 0 8 }) (encoded k group)
   unfolding encoded groupVerdict
   all-coded before =
       rw (tests-accepted (λ i. codeVerdict (codeAt k group i) (8 * k + i)) 8 (λ i p. code-passes (codeAt k group i) (8 * k + i) (before i p)))
@@ -166,8 +168,7 @@ module _ (k : ℕ) (group : Group) where
 
             pub encoded-is : _≡_ {A = Encoded}
                 (record {
-                  number = 0;
-                  place = 0;
+                  verdict = accepted;
                   bytes =
                       group .over .level
                       ∷ group .over .hysteresis
@@ -185,28 +186,10 @@ module _ (k : ℕ) (group : Group) where
                 rw (hysteresis-is _ over, hysteresis-is _ under, timing-is group delay timed, named, wired, driven)
                 at (all-coded all-codes)
 
--- ---- the encoder's answer is the group's verdict, and the bytes where that accepts
-module _ (k : ℕ) (group : Group) where
-  refused-number : (groupVerdict k group .number ≡ 0 → ⊥) → groupVerdict k group .number ≡ out-of-range
-  unfolding groupVerdict
-  refused-number h =
-      each-number (λ j. codeVerdict (codeAt k group j) (8 * k + j)) out-of-range (λ j. code-refuses (codeAt k group j) (8 * k + j)) 0 8 h
-
-  group-accepted : groupVerdict k group .number ≡ 0 → accepted ≡ groupVerdict k group
-  unfolding groupVerdict
-  group-accepted h = sym (first-accepted _ h)
-
-  pub encoded-verdict : _≡_ {A = Verdict} (record { number = encoded k group .number; place = encoded k group .place }) (groupVerdict k group)
-  unfolding encoded refusedAt
-  encoded-verdict =
-      elim (ℕ-discrete (groupVerdict k group .number) 0) [
-        | yes p ↦ rw (eq-eqb _ _ p) (group-accepted p)
-        | no p ↦ rw (ne-eqb _ _ p) (ap (λ (n : ℕ). record { number = n; place = groupVerdict k group .place }) (sym (refused-number p)))
-      ]
-
-  pub encoded-bytes : groupVerdict k group .number ≡ 0 → encoded k group .bytes ≡ each (λ j. codeValue (codeAt k group j)) 0 8
-  unfolding encoded
-  encoded-bytes h = rw (eq-eqb _ _ h)
+-- the bytes of a group that is accepted
+pub encoded-bytes : (k : ℕ) (group : Group) → groupVerdict k group .number ≡ 0 → encoded k group .bytes ≡ each (λ j. codeValue (codeAt k group j)) 0 8
+unfolding encoded
+encoded-bytes k group h = rw (eq-eqb _ _ h)
 
 -- ---- the settings, group by group
 -- group k of the settings
@@ -219,10 +202,10 @@ settingsTest groups k = groupVerdict k (groupIn groups k)
 
 -- what the encoder answers for group k of an array is that group's verdict
 pub encoded-test : (groups : List Group) (k : ℕ) (d : Group) (answer : Encoded) → answer ≡ encoded k (getD groups k d) → length groups ≡ 10 → k < 10
-    → _≡_ {A = Verdict} (record { number = answer .number; place = answer .place }) (settingsTest groups k)
+    → answer .verdict ≡ settingsTest groups k
+unfolding encoded
 encoded-test groups k d answer is ten h =
-    ap (λ (e : Encoded). record { number = e .number; place = e .place }) (is ∙ ap (encoded k) (getD-default groups k d (zeroGroup k) (omega arith)))
-    ∙ encoded-verdict k (groupIn groups k)
+    ap (λ (e : Encoded). e .verdict) (is ∙ ap (encoded k) (getD-default groups k d (zeroGroup k) (omega arith)))
 
 -- the byte at an address
 abbrev pub byteAt : Settings → ℕ → ℕ
@@ -260,7 +243,7 @@ module _ (settings : Settings) (buffer : List ℕ) where
   pub write-whole : length buffer ≡ 80 → settingsVerdict settings ≡ writeVerdict settings buffer
   write-whole h = sym (write-parts ∙ orElse-pass _ _ (rw (eq-eqb _ _ h)))
 
-  pub write-not-whole : (length buffer ≡ 80 → ⊥) → refusedUnless false wrong-length 0 ≡ writeVerdict settings buffer
+  pub write-not-whole : (length buffer ≡ 80 → ⊥) → refused wrong-length 0 ≡ writeVerdict settings buffer
   write-not-whole h = sym (write-parts ∙ rw (ne-eqb _ _ h) (orElse-hit _ _ (λ e. omega arith)))
 
   -- a refusal leaves the buffer, and an acceptance fills it

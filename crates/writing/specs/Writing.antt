@@ -1,11 +1,11 @@
 -- Which byte means a setting, and what the writer answers and leaves. Assumes nothing.
 use Prim.Native.Nat.{ℕ, _+_, _*_, _/_, _%_, _^_}
-use mathlib.Core.Bool.{Bool, true, false, cond, not, _&&_, _||_}
+use mathlib.Core.Bool.{Bool, true, false, cond, not, _||_}
 use mathlib.Core.List.{List, [], _∷_}
 use lib.Dec.{leb, eqb}
 use lib.ListN.{length, getD, replicate}
 use Rattle.records.specs.Lists.{each}
-use Rattle.records.specs.Numbers.{wrong-length, out-of-range}
+use Rattle.records.specs.Numbers.{wrong-length}
 use Rattle.records.specs.Verdicts.{refusedUnless, firstRefusal}
 use Rattle.records.specs.declared.verdict.Verdict.{Verdict}
 use Rattle.image.specs.Groups.{isVX}
@@ -105,13 +105,13 @@ written settings buffer = cond (eqb (writeVerdict settings buffer .number) 0) (i
 unfoldable pub groupVerdict : ℕ → Group → Verdict
 groupVerdict k group = firstRefusal (each (λ j. codeVerdict (getD (groupBytes k group) j Lacking) (8 * k + j)) 0 8)
 
--- a refusal has eight zeros
-unfoldable pub refusedAt : ℕ → Encoded
-refusedAt address = record { number = out-of-range; place = address; bytes = replicate 8 0 }
-
--- the eight bytes where they are accepted; else the refusal
+-- the eight bytes where they are accepted; a refusal has eight zeros
 unfoldable pub encoded : ℕ → Group → Encoded
 encoded k group =
-    cond (eqb (groupVerdict k group .number) 0)
-    (record { number = 0; place = 0; bytes = each (λ j. codeValue (getD (groupBytes k group) j Lacking)) 0 8 })
-    (refusedAt (groupVerdict k group .place))
+    record {
+      verdict = groupVerdict k group;
+      bytes =
+          cond (eqb (groupVerdict k group .number) 0)
+          (each (λ j. codeValue (getD (groupBytes k group) j Lacking)) 0 8)
+          (replicate 8 0);
+    }

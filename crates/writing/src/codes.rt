@@ -28,12 +28,10 @@ fn lookup(table: &[u16], value: u16) -> Code
     requires { ⌜ length (now table) ≤ 256 ⌝ }
     ensures { λ r. ⌜ r ≡ Codes·lookup (now (table .entry)) value ⌝ }
 {
-    let mut i = 0;
-    while i < table.len() {
+    for i in 0..table.len() {
         if table[i] == value {
             return Code::Is(i as u8);
         }
-        i += 1;
     }
     Code::Lacking
 }

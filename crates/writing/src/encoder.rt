@@ -6,14 +6,19 @@ use image::Group;
 use image::Logic;
 use image::Output;
 use records::OUT_OF_RANGE;
+use records::Verdict;
+use records::accepted;
+use records::refused;
 ghost use Prim.Native.Nat.{_<_, _+_, _*_};
 ghost use mathlib.Core.Path.{_≡_};
-ghost use Rattle.writing.specs.Writing.{encoded, refusedAt, flag, logicByte, pinLogicByte, outputByte};
+ghost use lib.ListN.{replicate};
+ghost use Rattle.records.specs.Numbers.{out-of-range};
+ghost use Rattle.records.specs.Verdicts.{refused as Verdicts·refused};
+ghost use Rattle.writing.specs.Writing.{encoded, flag, logicByte, pinLogicByte, outputByte};
 
-// The eight bytes, with number 0; or the refusal, with eight zeros.
+// The eight bytes of a group that is accepted; or the refusal, with eight zeros.
 pub(crate) struct Encoded {
-    pub number: u8,
-    pub place: usize,
+    pub verdict: Verdict,
     pub bytes: [u8; 8],
 }
 
@@ -22,21 +27,21 @@ pub(crate) fn encode(k: usize, group: Group) -> Encoded
     ensures { λ r. ⌜ r ≡ encoded k group ⌝ }
 {
     if group.over.hysteresis > 31 {
-        return refused(k, 1);
+        return lacking(k, 1);
     }
     if group.under.hysteresis > 31 {
-        return refused(k, 3);
+        return lacking(k, 3);
     }
     let Code::Is(delay) = codes::time_code(group.delay) else {
-        return refused(k, 4);
+        return lacking(k, 4);
     };
     let input = group.input;
     let Code::Is(five) = codes::input_code(k, input) else {
-        return refused(k, 5);
+        return lacking(k, 5);
     };
     let logic = group.logic;
     let Code::Is(six) = logic_byte(k, logic) else {
-        return refused(k, 6);
+        return lacking(k, 6);
     };
     let faults = group.faults;
     let output = group.output;
@@ -51,31 +56,19 @@ pub(crate) fn encode(k: usize, group: Group) -> Encoded
         six,
         output_byte(output),
     ];
-    accepted(bytes)
+    let verdict = accepted();
+    Encoded { verdict, bytes }
 }
 
-fn accepted(bytes: [u8; 8]) -> Encoded
-    ensures { λ r. ⌜ r ≡ record { number = 0; place = 0; bytes = bytes } ⌝ }
-{
-    Encoded {
-        number: 0,
-        place: 0,
-        bytes,
-    }
-}
-
-fn refused(k: usize, j: usize) -> Encoded
+// The refusal of a setting that byte j of group k cannot mean.
+fn lacking(k: usize, j: usize) -> Encoded
     requires { ⌜ k < 10 ⌝ }
     requires { ⌜ j < 8 ⌝ }
-    ensures { λ r. ⌜ r ≡ refusedAt (8 * k + j) ⌝ }
+    ensures { λ r. ⌜ r ≡ record { verdict = Verdicts·refused out-of-range (8 * k + j); bytes = replicate 8 0 } ⌝ }
 {
-    let place = 8 * k + j;
+    let verdict = refused(OUT_OF_RANGE, 8 * k + j);
     let bytes = [0u8; 8];
-    Encoded {
-        number: OUT_OF_RANGE,
-        place,
-        bytes,
-    }
+    Encoded { verdict, bytes }
 }
 
 // Byte 6 of group k.

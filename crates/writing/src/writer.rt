@@ -4,7 +4,8 @@ use crate::encoder;
 use image::Settings;
 use records::Verdict;
 use records::WRONG_LENGTH;
-use records::refuse_unless;
+use records::accepted;
+use records::refused;
 ghost use mathlib.Core.Path.{_≡_};
 ghost use lib.ListN.{length};
 ghost use Rattle.writing.specs.Writing.{settingsVerdict, writeVerdict, imageOf, written};
@@ -15,18 +16,13 @@ pub fn settings_verdict(settings: Settings) -> Verdict
     ensures { λ r. ⌜ r ≡ settingsVerdict settings ⌝ }
 {
     let groups = settings.groups;
-    let mut k = 0;
-    while k < 10 {
+    for k in 0..10 {
         let encoded = encoder::encode(k, groups[k]);
-        if encoded.number != 0 {
-            return Verdict {
-                number: encoded.number,
-                place: encoded.place,
-            };
+        if encoded.verdict.number != 0 {
+            return encoded.verdict;
         }
-        k += 1;
     }
-    refuse_unless(true, 0, 0)
+    accepted()
 }
 
 // Writes the settings' eighty bytes into a buffer of eighty bytes. A refusal leaves every byte.
@@ -35,7 +31,7 @@ pub fn write(settings: Settings, buffer: &mut [u8]) -> Verdict
     ensures { λ r. ⌜ now (buffer .exit) ≡ written settings (now (buffer .entry)) ⌝ }
 {
     if buffer.len() != 80 {
-        return refuse_unless(false, WRONG_LENGTH, 0);
+        return refused(WRONG_LENGTH, 0);
     }
     let verdict = settings_verdict(settings);
     if verdict.number != 0 {
@@ -51,12 +47,10 @@ fn write_groups(settings: Settings, buffer: &mut [u8])
     ensures { λ _. ⌜ now (buffer .exit) ≡ imageOf settings ⌝ }
 {
     let groups = settings.groups;
-    let mut k = 0;
-    while k < 10 {
+    for k in 0..10 {
         let encoded = encoder::encode(k, groups[k]);
         let bytes = encoded.bytes;
         write_group(bytes, &mut buffer[8 * k..8 * k + 8]);
-        k += 1;
     }
 }
 

@@ -1,6 +1,7 @@
 //! One function for each kind of call: the arguments become what is given and lent, the paper's answer what is expected.
 
 use crate::cases::{put_bank, put_settings, put_state, put_word, Case};
+use crate::for_c;
 use crate::paper::{self, engine, Bank, Detected, Settings, State, Ticked, Verdict};
 
 /// Kind 1. The normal bytes, made byte by byte, must be what is written after reading.
@@ -96,7 +97,7 @@ fn engine_case(kind: u8, given: Vec<u8>, ticked: &Ticked) -> Case {
 
 /// What is given in kinds 7 to 10: "state, word (2), table", without the word where none is given.
 fn engine_arguments(state: State, word: Option<u16>, bytes: &[u8]) -> Vec<u8> {
-    let mut given = Vec::with_capacity(5 + bytes.len());
+    let mut given = Vec::with_capacity(10 + bytes.len());
     put_state(&mut given, state);
     if let Some(word) = word {
         put_word(&mut given, word);
@@ -135,6 +136,47 @@ pub fn show_table_case(state: State, table: &[u8]) -> Case {
 /// Kind 10.
 pub fn show_sheet_case(state: State, sheet: &[u8]) -> Case {
     engine_case(10, engine_arguments(state, None, sheet), &paper::show_sheet(sheet, state))
+}
+
+/// What is given in kinds 15 to 18: "word (2), table", without the word where none is given; the state is lent.
+fn for_c_case(kind: u8, mut state: Vec<u8>, word: Option<u16>, bytes: &[u8], call: impl Fn(State) -> Ticked) -> Case {
+    let mut given = Vec::with_capacity(2 + bytes.len());
+    if let Some(word) = word {
+        put_word(&mut given, word);
+    }
+    given.extend_from_slice(bytes);
+    let mut case = Case::new(kind, given, state.clone());
+    let (answer, verdict) = for_c::on_state(&mut state, call);
+    case.verdicts.push(verdict);
+    case.expected.extend_from_slice(&answer.to_le_bytes());
+    case.expected.extend_from_slice(&state);
+    case
+}
+
+/// Kinds 15 and 17: with a word a tick, without one a show.
+pub fn table_for_c_case(state: Vec<u8>, word: Option<u16>, table: &[u8]) -> Case {
+    match word {
+        Some(word) => for_c_case(15, state, Some(word), table, |state| paper::tick_table(table, state, word)),
+        None => for_c_case(17, state, None, table, |state| paper::show_table(table, state)),
+    }
+}
+
+/// Kinds 16 and 18: with a word a tick, without one a show.
+pub fn sheet_for_c_case(state: Vec<u8>, word: Option<u16>, sheet: &[u8]) -> Case {
+    match word {
+        Some(word) => for_c_case(16, state, Some(word), sheet, |state| paper::tick_sheet(sheet, state, word)),
+        None => for_c_case(18, state, None, sheet, |state| paper::show_sheet(sheet, state)),
+    }
+}
+
+/// Kind 14.
+pub fn start_for_c_case(mut state: Vec<u8>) -> Case {
+    let mut case = Case::new(14, Vec::new(), state.clone());
+    let (answer, verdict) = for_c::start(&mut state);
+    case.verdicts.push(verdict);
+    case.expected.extend_from_slice(&answer.to_le_bytes());
+    case.expected.extend_from_slice(&state);
+    case
 }
 
 /// Kind 11.

@@ -1,9 +1,9 @@
-//! Family 5: ticks and shows of sheets, and their verdicts (kinds 8, 10, 12).
+//! Family 5: ticks and shows of sheets, and their verdicts (kinds 8, 10, 12, for C 16 and 18), and the start for C (kind 14).
 
-use super::calls::{sheet_verdict_case, show_sheet_case, tick_sheet_case};
+use super::calls::{sheet_for_c_case, sheet_verdict_case, show_sheet_case, start_for_c_case, tick_sheet_case};
 use super::random::Random;
 use super::sheets::{damage, damage_length, sheet_bytes, valid_steps};
-use super::words::{state_beyond, state_within, word_for};
+use super::words::{lent_state, state_beyond, state_within, word_for};
 use super::Family;
 use crate::cases::Case;
 use crate::paper::engine::{start, Waiting};
@@ -66,9 +66,12 @@ impl SheetTicks {
         if random.chance(10) {
             damage_length(random, &mut sheet, STEP_BYTES);
         }
-        match random.weighted(&[35, 25, 40]) {
+        match random.weighted(&[25, 20, 15, 10, 3, 27]) {
             0 => tick_sheet_case(state, word, &sheet).0,
             1 => show_sheet_case(state, &sheet),
+            2 => sheet_for_c_case(lent_state(random, state), Some(word), &sheet),
+            3 => sheet_for_c_case(lent_state(random, state), None, &sheet),
+            4 => start_for_c_case(lent_state(random, state)),
             _ => sheet_verdict_case(sheet),
         }
     }

@@ -1,10 +1,10 @@
-//! Family 4: ticks and shows of tables, and their verdicts (kinds 7, 9, 11).
+//! Family 4: ticks and shows of tables, and their verdicts (kinds 7, 9, 11, for C 15 and 17).
 
-use super::calls::{show_table_case, table_verdict_case, tick_table_case};
+use super::calls::{show_table_case, table_for_c_case, table_verdict_case, tick_table_case};
 use super::random::Random;
 use super::sheets::damage_length;
 use super::tables::{damage, damage_shown, leading_to, valid_table};
-use super::words::{state_beyond, state_within, word_for};
+use super::words::{lent_state, state_beyond, state_within, word_for};
 use super::Family;
 use crate::cases::Case;
 use crate::paper::engine::{start, Waiting};
@@ -103,9 +103,11 @@ impl TableTicks {
         if random.chance(10) {
             damage_length(random, &mut table, CELL_BYTES);
         }
-        match random.weighted(&[30, 30, 40]) {
+        match random.weighted(&[25, 20, 15, 10, 30]) {
             0 => tick_table_case(state, word, &table).0,
             1 => show_table_case(state, &table),
+            2 => table_for_c_case(lent_state(random, state), Some(word), &table),
+            3 => table_for_c_case(lent_state(random, state), None, &table),
             _ if random.chance(60) => table_verdict_case(number as u8, &table),
             _ => table_verdict_case(state.number, &table),
         }

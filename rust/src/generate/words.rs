@@ -1,6 +1,8 @@
 //! Words and states for the engine, chosen by what the step or the cell waits for.
 
 use super::random::Random;
+use super::other_length;
+use crate::for_c::state_bytes;
 use crate::paper::engine::Waiting;
 use crate::paper::State;
 
@@ -67,4 +69,18 @@ pub fn state_beyond(random: &mut Random, number: usize, count: usize, timeout: u
         4 => State { number: random.pick(&[count as u8 + 1, 62, 63, 64, 127, 255]), elapsed: 0 },
         _ => State { number: random.byte(), elapsed: random.word() },
     }
+}
+
+/// A state's bytes as C lends them; at times of another length, or with a byte that must be 0 and is not.
+pub fn lent_state(random: &mut Random, state: State) -> Vec<u8> {
+    let mut bytes = state_bytes(state).to_vec();
+    if random.chance(12) {
+        let at = random.pick(&[1, 4, 5, 6, 7]);
+        bytes[at] = random.pick(&[1, 2, 128, 255]);
+    }
+    if random.chance(6) {
+        let length = other_length(random, bytes.len(), 20);
+        bytes.resize(length, 0);
+    }
+    bytes
 }

@@ -10,17 +10,8 @@ use Rattle.bit_fields.proofs.field.Tie as tie
 returns : tie.Need-returns
 returns c = bits-past 8 _ _ _ (c .before .fits .byte .fits) (c .if1 .taken)
 
-shr-result : tie.Need-shr-result
-shr-result c = search needs
-
 returns-2 : tie.Need-returns-2
 returns-2 c = bits-wide _ _ _ (c .before .before .fits .byte .fits) (c .if2 .taken)
-
-shr-result-2 : tie.Need-shr-result-2
-shr-result-2 c = search needs
-
-mask-requires : tie.Need-mask-requires
-mask-requires c κs = search needs
 
 returns-3 : tie.Need-returns-3
 returns-3 c =
@@ -28,4 +19,4 @@ returns-3 c =
     ap (bitAnd (a .byte / 2 ^ a .low)) (c .mask .ensures) ∙ bits-masked (a .byte) (a .low) (a .width)
 
 pub field-spec : {M : Type 1} → statement M
-field-spec = tie.close (tie.spec returns shr-result returns-2 shr-result-2 mask-requires returns-3)
+field-spec = tie.close (tie.spec returns (λ c. search needs) returns-2 (λ c. search needs) (λ c κs. search needs) returns-3)

@@ -10,12 +10,6 @@ use Rattle.bit_fields.proofs.join.Tie as tie
 returns : tie.Need-returns
 returns c = joined-past _ _ _ (c .before .fits .rest .fits) (c .if1 .taken)
 
-shl-result : tie.Need-shl-result
-shl-result c = search needs
-
-mask-requires : tie.Need-mask-requires
-mask-requires c κs = search needs
-
 returns-2 : tie.Need-returns-2
 returns-2 c =
     let a = c .before .before .args in
@@ -23,4 +17,4 @@ returns-2 c =
     ∙ joined-masked (a .value) (a .low) (a .rest) (c .before .if1 .left)
 
 pub join-spec : {M : Type 1} → statement M
-join-spec = tie.close (tie.spec returns shl-result mask-requires returns-2)
+join-spec = tie.close (tie.spec returns (λ c. search needs) (λ c κs. search needs) returns-2)

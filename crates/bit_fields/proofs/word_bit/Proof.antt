@@ -8,15 +8,9 @@ use Rattle.bit_fields.proofs.word_bit.Tie as tie
 returns : tie.Need-returns
 returns c = bits-past 16 _ _ _ (c .before .fits .word .fits) (c .if1 .taken)
 
-shr-result : tie.Need-shr-result
-shr-result c = search needs
-
-cast-result : tie.Need-cast-result
-cast-result c = search needs
-
 returns-2 : tie.Need-returns-2
 unfolding bits
 returns-2 c = search needs
 
 pub word-bit-spec : {M : Type 1} → statement M
-word-bit-spec = tie.close (tie.spec returns shr-result cast-result returns-2)
+word-bit-spec = tie.close (tie.spec returns (λ c. search needs) (λ c. search needs) returns-2)

@@ -10,38 +10,23 @@ use Rattle.image.specs.Reading.{imageVerdict, reading}
 use Rattle.image.specs.declared.reader.Reading.{Reading}
 use Rattle.image.specs.declared.settings.Settings.{Settings}
 use Rattle.writing.specs.Writing.{writeVerdict, written}
-use Rattle.capi.specs.Packed.{packedVerdict}
+use Rattle.packing.specs.Packed.{packedVerdict}
 use Rattle.capi.specs.Calls.{normalVerdict, normalWritten}
 use Rattle.capi.proofs.CallLaws.{normal-refused, normal-kept, normal-taken}
 use Rattle.capi.proofs.wrackbasket_normal.Statement.{statement}
 use Rattle.capi.proofs.wrackbasket_normal.Tie as tie
-
-read-requires : tie.Need-read-requires
-read-requires c κs = search needs
-
-packed-requires : tie.Need-packed-requires
-packed-requires c κs = search needs
 
 returns : tie.Need-returns
 unfolding reading
 returns c =
     let read = c .before .before .before in
     let start = read .before .before .before .args in
-    let number = ap (λ (r : Reading). r .number) (read .read .ensures) in
+    let number = ap (λ (r : Reading). r .verdict .number) (read .read .ensures) in
     let bad : ¬ (imageVerdict (now (start .image)) .number ≡ 0) = λ zero. c .before .if1 .taken (number ∙ zero) in
     let refused = normal-refused (now (start .image)) (now (start .buffer)) bad in (
-      c .packed .ensures ∙ ap (λ (r : Reading). packedVerdict (record { number = r .number; place = r .place })) (read .read .ensures) ∙ ap packedVerdict (sym refused),
+      c .packed .ensures ∙ ap (λ (r : Reading). packedVerdict (r .verdict)) (read .read .ensures) ∙ ap packedVerdict (sym refused),
       sym (normal-kept (now (start .image)) (now (start .buffer)) (λ zero. bad (sym (ap (λ (v : Verdict). v .number) refused) ∙ zero))),
     )
-
-write-requires : tie.Need-write-requires
-write-requires c κs = search needs
-
-packed-requires-2 : tie.Need-packed-requires-2
-packed-requires-2 c κs = search needs
-
-same-length : tie.Need-same-length
-same-length c = search needs
 
 returns-2 : tie.Need-returns-2
 unfolding reading
@@ -51,7 +36,7 @@ returns-2 c =
     let read = else .before .before in
     let start = read .before .before .before .args in
     let image = now (start .image) in
-    let good : imageVerdict image .number ≡ 0 = sym (ap (λ (r : Reading). r .number) (read .read .ensures)) ∙ else .if1 .left in
+    let good : imageVerdict image .number ≡ 0 = sym (ap (λ (r : Reading). r .verdict .number) (read .read .ensures)) ∙ else .if1 .left in
     let taken = normal-taken image (now (start .buffer)) (λ i. read .before .before .shared-slice-known .given i .fits) good in
     let wrote = write .write .ensures in (
       c .packed2 .ensures ∙ ap packedVerdict (wrote .0 ∙ ap (λ (r : Reading). writeVerdict (r .settings) (now (start .buffer))) (read .read .ensures) ∙ sym (taken .0)),
@@ -62,10 +47,10 @@ pub wrackbasket-normal-spec : {M : Type 1} → statement M
 wrackbasket-normal-spec =
     tie.close
     (tie.spec
-    read-requires
-    packed-requires
+    (λ c κs. search needs)
+    (λ c κs. search needs)
     returns
-    write-requires
-    packed-requires-2
-    same-length
+    (λ c κs. search needs)
+    (λ c κs. search needs)
+    (λ c. search needs)
     returns-2)

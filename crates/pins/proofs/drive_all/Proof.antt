@@ -22,24 +22,6 @@ loop-holds : tie.Need-loop-holds Inv-loop μ-loop
 unfolding wordOf
 loop-holds c = (omega arith, refl)
 
-mul-group : tie.Need-mul-group Inv-loop μ-loop
-mul-group c = omega arith
-
-element-copy-out-group : tie.Need-element-copy-out-group Inv-loop μ-loop
-element-copy-out-group c = omega arith
-
-cast-word-bit : tie.Need-cast-word-bit Inv-loop μ-loop
-cast-word-bit c = omega arith
-
-word-bit-requires : tie.Need-word-bit-requires Inv-loop μ-loop
-word-bit-requires c κs = search needs
-
-drive-requires : tie.Need-drive-requires Inv-loop μ-loop
-drive-requires c κs = search needs
-
-bit-requires : tie.Need-bit-requires Inv-loop μ-loop
-bit-requires c κs = search needs
-
 -- what is driven is pin k
 driven : (c : tie.After-drive Inv-loop μ-loop)
     → c .drive .result
@@ -53,12 +35,6 @@ add-word : tie.Need-add-word Inv-loop μ-loop
 add-word c =
     let l = c .before .before .before .before .before .before .loop in
     record { fits = added-fits _ (l .k) _ _ _ (l .inv .1) (c .bit .ensures) (driven (c .before)) (omega arith) }
-
-add-k : tie.Need-add-k Inv-loop μ-loop
-add-k c = omega arith
-
-loop-less : tie.Need-loop-less Inv-loop μ-loop
-loop-less c = omega arith
 
 loop-again : tie.Need-loop-again Inv-loop μ-loop
 loop-again c =
@@ -79,14 +55,14 @@ drive-all-spec =
     Inv-loop
     μ-loop
     loop-holds
-    mul-group
-    element-copy-out-group
-    cast-word-bit
-    word-bit-requires
-    drive-requires
-    bit-requires
+    (λ c. search needs)
+    (λ c. search needs)
+    (λ c. search needs)
+    (λ c κs. search needs)
+    (λ c κs. search needs)
+    (λ c κs. search needs)
     add-word
-    add-k
-    loop-less
+    (λ c. search needs)
+    (λ c. search needs)
     loop-again
     returns)

@@ -4,15 +4,9 @@ use Rattle.channels.specs.Channel.{faultBit}
 use Rattle.channels.proofs.channel.fault_bit.Statement.{statement}
 use Rattle.channels.proofs.channel.fault_bit.Tie as tie
 
-logic-fault-requires : tie.Need-logic-fault-requires
-logic-fault-requires c κs = search needs
-
-fault-by-requires : tie.Need-fault-by-requires
-fault-by-requires c κs = search needs
-
 returns : tie.Need-returns
 unfolding faultBit
 returns c = rw (c .fault-by .ensures, c .before .logic-fault .ensures)
 
 pub fault-bit-spec : {M : Type 1} → statement M
-fault-bit-spec = tie.close (tie.spec logic-fault-requires fault-by-requires returns)
+fault-bit-spec = tie.close (tie.spec (λ c κs. search needs) (λ c κs. search needs) returns)

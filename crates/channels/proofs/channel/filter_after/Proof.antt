@@ -13,12 +13,9 @@ returns-2 : tie.Need-returns-2
 unfolding filterAfter ticks
 returns-2 c = rw (c .before .before .if1 .left, le-leb _ _ (c .if2 .taken))
 
-add-t5 : tie.Need-add-t5
-add-t5 c = search needs
-
 returns-3 : tie.Need-returns-3
 unfolding filterAfter ticks
 returns-3 c = rw (c .before .before .before .if1 .left, lt-leb _ _ (c .before .if2 .left))
 
 pub filter-after-spec : {M : Type 1} → statement M
-filter-after-spec = tie.close (tie.spec returns returns-2 add-t5 returns-3)
+filter-after-spec = tie.close (tie.spec returns returns-2 (λ c. search needs) returns-3)

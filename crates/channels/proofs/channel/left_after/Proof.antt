@@ -7,12 +7,6 @@ use Rattle.channels.proofs.ChannelLaws.{left-on-edge, left-on-level}
 use Rattle.channels.proofs.channel.left_after.Statement.{statement}
 use Rattle.channels.proofs.channel.left_after.Tie as tie
 
-pulse-now-requires : tie.Need-pulse-now-requires
-pulse-now-requires c κs = search needs
-
-sub-result : tie.Need-sub-result
-sub-result c = search needs
-
 returns : tie.Need-returns
 returns c = ap (λ (n : ℕ). n - 1) (c .before .pulse-now .ensures) ∙ sym (left-on-edge _ _ _ _ (c .before .before .if1 .taken))
 
@@ -25,4 +19,4 @@ returns-3 : tie.Need-returns-3
 returns-3 c = sym (left-on-level _ _ _ _ (c .if1 .left))
 
 pub left-after-spec : {M : Type 1} → statement M
-left-after-spec = tie.close (tie.spec pulse-now-requires sub-result returns returns-2 returns-3)
+left-after-spec = tie.close (tie.spec (λ c κs. search needs) (λ c. search needs) returns returns-2 returns-3)

@@ -6,9 +6,6 @@ use Rattle.channels.proofs.ChannelLaws.{fault-on-edge, fault-on-level}
 use Rattle.channels.proofs.channel.logic_fault.Statement.{statement}
 use Rattle.channels.proofs.channel.logic_fault.Tie as tie
 
-pulse-now-requires : tie.Need-pulse-now-requires
-pulse-now-requires c κs = search needs
-
 returns : tie.Need-returns
 returns c = ap (ltb 0) (c .pulse-now .ensures) ∙ sym (fault-on-edge _ _ _ _ (c .before .if1 .taken))
 
@@ -16,4 +13,4 @@ returns-2 : tie.Need-returns-2
 returns-2 c = sym (fault-on-level _ _ _ _ (c .if1 .left))
 
 pub logic-fault-spec : {M : Type 1} → statement M
-logic-fault-spec = tie.close (tie.spec pulse-now-requires returns returns-2)
+logic-fault-spec = tie.close (tie.spec (λ c κs. search needs) returns returns-2)

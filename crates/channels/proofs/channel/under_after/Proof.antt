@@ -7,15 +7,6 @@ use Rattle.channels.specs.Channel.{underAfter, underRelease}
 use Rattle.channels.proofs.channel.under_after.Statement.{statement}
 use Rattle.channels.proofs.channel.under_after.Tie as tie
 
-cast-release : tie.Need-cast-release
-cast-release c = search needs
-
-cast-release-2 : tie.Need-cast-release-2
-cast-release-2 c = search needs
-
-add-release : tie.Need-add-release
-add-release c = search needs
-
 returns : tie.Need-returns
 unfolding underAfter underRelease
 returns c =
@@ -36,4 +27,4 @@ returns-3 c = rw (c .before .if1 .left)
 
 pub under-after-spec : {M : Type 1} → statement M
 under-after-spec =
-    tie.close (tie.spec cast-release cast-release-2 add-release returns returns-2 returns-3)
+    tie.close (tie.spec (λ c. search needs) (λ c. search needs) (λ c. search needs) returns returns-2 returns-3)

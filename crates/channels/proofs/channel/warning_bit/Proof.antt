@@ -4,12 +4,9 @@ use Rattle.channels.specs.Channel.{warningBit}
 use Rattle.channels.proofs.channel.warning_bit.Statement.{statement}
 use Rattle.channels.proofs.channel.warning_bit.Tie as tie
 
-warning-by-requires : tie.Need-warning-by-requires
-warning-by-requires c κs = search needs
-
 returns : tie.Need-returns
 unfolding warningBit
 returns c = c .warning-by .ensures
 
 pub warning-bit-spec : {M : Type 1} → statement M
-warning-bit-spec = tie.close (tie.spec warning-by-requires returns)
+warning-bit-spec = tie.close (tie.spec (λ c κs. search needs) returns)

@@ -12,21 +12,6 @@ returns c = past-frame _ _ _ (c .if1 .taken)
 returns-2 : tie.Need-returns-2
 returns-2 c = past-frames _ _ _ (omega arith)
 
-mul-byte-at : tie.Need-mul-byte-at
-mul-byte-at c = search needs
-
-sub-byte-at : tie.Need-sub-byte-at
-sub-byte-at c = search needs
-
-part-byte-at-start : tie.Need-part-byte-at-start
-part-byte-at-start c = search needs
-
-part-byte-at-end : tie.Need-part-byte-at-end
-part-byte-at-end c = search needs
-
-byte-at-requires : tie.Need-byte-at-requires
-byte-at-requires c κs = search needs
-
 returns-3 : tie.Need-returns-3
 returns-3 c = c .byte-at .ensures ∙ in-frame _ _ _ (omega arith)
 
@@ -36,9 +21,9 @@ frame-byte-spec =
     (tie.spec
     returns
     returns-2
-    mul-byte-at
-    sub-byte-at
-    part-byte-at-start
-    part-byte-at-end
-    byte-at-requires
+    (λ c. search needs)
+    (λ c. search needs)
+    (λ c. search needs)
+    (λ c. search needs)
+    (λ c κs. search needs)
     returns-3)

@@ -13,21 +13,12 @@ returns : tie.Need-returns
 unfolding levelAt
 returns c = rw (lt-leb _ _ (c .if1 .taken))
 
-frame-byte-requires : tie.Need-frame-byte-requires
-frame-byte-requires c κs = search needs
-
 returns-2 : tie.Need-returns-2
 unfolding levelAt
 returns-2 c =
     let b = c .before in
     let none = bits-past 8 (b .frame-byte .result) _ 1 (b .frame-byte .ok) (c .if2 .taken) in
     rw (le-leb _ _ (b .before .if1 .left), ← b .frame-byte .ensures, ← none)
-
-cast-field : tie.Need-cast-field
-cast-field c = search needs
-
-field-requires : tie.Need-field-requires
-field-requires c κs = search needs
 
 returns-3 : tie.Need-returns-3
 unfolding levelAt
@@ -37,4 +28,4 @@ returns-3 c =
 
 pub level-spec : {M : Type 1} → statement M
 level-spec =
-    tie.close (tie.spec returns frame-byte-requires returns-2 cast-field field-requires returns-3)
+    tie.close (tie.spec returns (λ c κs. search needs) returns-2 (λ c. search needs) (λ c κs. search needs) returns-3)

@@ -4,18 +4,6 @@ use Rattle.channels.specs.Frame.{sampleAt}
 use Rattle.channels.proofs.frame.sample.Statement.{statement}
 use Rattle.channels.proofs.frame.sample.Tie as tie
 
-sister-requires : tie.Need-sister-requires
-sister-requires c κs = search needs
-
-measured-requires : tie.Need-measured-requires
-measured-requires c κs = search needs
-
-frame-byte-requires : tie.Need-frame-byte-requires
-frame-byte-requires c κs = search needs
-
-level-requires : tie.Need-level-requires
-level-requires c κs = search needs
-
 returns : tie.Need-returns
 unfolding sampleAt
 returns c = rw (c .level .ensures, c .before .frame-byte .ensures, c .before .before .measured .ensures)
@@ -23,4 +11,4 @@ returns c = rw (c .level .ensures, c .before .frame-byte .ensures, c .before .be
 pub sample-spec : {M : Type 1} → statement M
 sample-spec =
     tie.close
-    (tie.spec sister-requires measured-requires frame-byte-requires level-requires returns)
+    (tie.spec (λ c κs. search needs) (λ c κs. search needs) (λ c κs. search needs) (λ c κs. search needs) returns)

@@ -34,48 +34,21 @@ loop-holds : tie.Need-loop-holds Inv-loop μ-loop
 unfolding each wordOf
 loop-holds c = (omega arith, (refl, (refl, refl)))
 
-channel-at-requires : tie.Need-channel-at-requires Inv-loop μ-loop
-channel-at-requires c κs = search needs
-
-group-at-requires : tie.Need-group-at-requires Inv-loop μ-loop
-group-at-requires c κs = search needs
-
-run-requires : tie.Need-run-requires Inv-loop μ-loop
-run-requires c κs = search needs
-
 -- the run is that of channel k
 ran : (c : tie.After-run Inv-loop μ-loop)
     → c .run .result
     ≡ ranAt (c .before .before .before .before .before .before .args .settings) (now (c .before .before .before .before .before .before .args .frames)) (c .before .before .before .before .before .before .args .bank) (c .before .before .before .before .before .before .args .n) (c .before .before .before .before .loop .k)
 ran c = rw (c .run .ensures, c .before .group-at .ensures, c .before .before .channel-at .ensures)
 
-mul-next : tie.Need-mul-next Inv-loop μ-loop
-mul-next c = search needs
-
-element-set-from-next : tie.Need-element-set-from-next Inv-loop μ-loop
-element-set-from-next c = search needs
-
-bit-requires : tie.Need-bit-requires Inv-loop μ-loop
-bit-requires c κs = search needs
-
 add-faults : tie.Need-add-faults Inv-loop μ-loop
 add-faults c =
     let l = c .before .before .before .before .before .before in
     record { fits = added-fits _ (l .loop .k) _ _ _ (l .loop .inv .1 .1 .0) (c .bit .ensures) (ap (λ (r : Ran). r .fault) (ran (c .before .before))) (omega arith) }
 
-bit-requires-2 : tie.Need-bit-requires-2 Inv-loop μ-loop
-bit-requires-2 c κs = search needs
-
 add-warnings : tie.Need-add-warnings Inv-loop μ-loop
 add-warnings c =
     let l = c .before .before .before .before .before .before .before in
     record { fits = added-fits _ (l .loop .k) _ _ _ (l .loop .inv .1 .1 .1) (c .bit2 .ensures) (ap (λ (r : Ran). r .warning) (ran (c .before .before .before))) (omega arith) }
-
-add-k : tie.Need-add-k Inv-loop μ-loop
-add-k c = search needs
-
-loop-less : tie.Need-loop-less Inv-loop μ-loop
-loop-less c = search needs
 
 loop-again : tie.Need-loop-again Inv-loop μ-loop
 loop-again c =
@@ -106,16 +79,16 @@ advance-spec =
     Inv-loop
     μ-loop
     loop-holds
-    channel-at-requires
-    group-at-requires
-    run-requires
-    mul-next
-    element-set-from-next
-    bit-requires
+    (λ c κs. search needs)
+    (λ c κs. search needs)
+    (λ c κs. search needs)
+    (λ c. search needs)
+    (λ c. search needs)
+    (λ c κs. search needs)
     add-faults
-    bit-requires-2
+    (λ c κs. search needs)
     add-warnings
-    add-k
-    loop-less
+    (λ c. search needs)
+    (λ c. search needs)
     loop-again
     returns)

@@ -6,14 +6,8 @@ use Rattle.detectors.proofs.BankLaws.{ten-channels}
 use Rattle.detectors.proofs.bank.channel_at.Statement.{statement}
 use Rattle.detectors.proofs.bank.channel_at.Tie as tie
 
-mul-result : tie.Need-mul-result
-mul-result c = search needs
-
-element-copy-out-result : tie.Need-element-copy-out-result
-element-copy-out-result c = search needs
-
 returns : tie.Need-returns
 returns c = getD-default (c .before .args .t1 .channels) _ _ _ (omega (arith, ten-channels (c .before .args .t1) _ (c .before .good .0)))
 
 pub channel-at-spec : {M : Type 1} → statement M
-channel-at-spec = tie.close (tie.spec mul-result element-copy-out-result returns)
+channel-at-spec = tie.close (tie.spec (λ c. search needs) (λ c. search needs) returns)

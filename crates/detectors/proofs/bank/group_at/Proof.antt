@@ -6,14 +6,8 @@ use Rattle.image.proofs.SettingsLaws.{ten-groups}
 use Rattle.detectors.proofs.bank.group_at.Statement.{statement}
 use Rattle.detectors.proofs.bank.group_at.Tie as tie
 
-mul-result : tie.Need-mul-result
-mul-result c = search needs
-
-element-copy-out-result : tie.Need-element-copy-out-result
-element-copy-out-result c = search needs
-
 returns : tie.Need-returns
 returns c = getD-default (c .before .args .t1 .groups) _ _ _ (omega (arith, ten-groups (c .before .args .t1) _ (c .before .good .0)))
 
 pub group-at-spec : {M : Type 1} → statement M
-group-at-spec = tie.close (tie.spec mul-result element-copy-out-result returns)
+group-at-spec = tie.close (tie.spec (λ c. search needs) (λ c. search needs) returns)

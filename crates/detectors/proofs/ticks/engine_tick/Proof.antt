@@ -4,12 +4,9 @@ use Rattle.detectors.specs.Tick.{engineTicked}
 use Rattle.detectors.proofs.ticks.engine_tick.Statement.{statement}
 use Rattle.detectors.proofs.ticks.engine_tick.Tie as tie
 
-detect-requires : tie.Need-detect-requires
-detect-requires c κs = search needs
-
 returns : tie.Need-returns
 unfolding engineTicked
 returns c = c .detect .ensures
 
 pub engine-tick-spec : {M : Type 1} → statement M
-engine-tick-spec = tie.close (tie.spec detect-requires returns)
+engine-tick-spec = tie.close (tie.spec (λ c κs. search needs) returns)

@@ -4,12 +4,9 @@ use Rattle.detectors.specs.Tick.{ticked}
 use Rattle.detectors.proofs.ticks.tick.Statement.{statement}
 use Rattle.detectors.proofs.ticks.tick.Tie as tie
 
-detect-requires : tie.Need-detect-requires
-detect-requires c κs = search needs
-
 returns : tie.Need-returns
 unfolding ticked
 returns c = c .detect .ensures
 
 pub tick-spec : {M : Type 1} → statement M
-tick-spec = tie.close (tie.spec detect-requires returns)
+tick-spec = tie.close (tie.spec (λ c κs. search needs) returns)

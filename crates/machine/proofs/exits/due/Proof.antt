@@ -22,9 +22,6 @@ returns : tie.Need-returns
 unfolding due
 returns c = rw (eq-eqb (c .before .before .args .node .timeout) 0 (c .if1 .taken))
 
-sub-result : tie.Need-sub-result
-sub-result c = search needs
-
 returns-2 : tie.Need-returns-2
 unfolding due
 returns-2 c =
@@ -32,4 +29,4 @@ returns-2 c =
     rw (ne-eqb (a .node .timeout) 0 (c .before .if1 .left)) (reached (a .node .timeout) (a .elapsed) (c .before .if1 .left))
 
 pub due-spec : {M : Type 1} → statement M
-due-spec = tie.close (tie.spec returns sub-result returns-2)
+due-spec = tie.close (tie.spec returns (λ c. search needs) returns-2)

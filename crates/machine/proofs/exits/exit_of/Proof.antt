@@ -12,15 +12,9 @@ returns : tie.Need-returns
 unfolding shares
 returns c = sym (exit-fault _ _ _ (ap not (ne-eqb _ _ (c .if1 .taken))))
 
-met-requires : tie.Need-met-requires
-met-requires c κs = search needs
-
 returns-2 : tie.Need-returns-2
 unfolding shares
 returns-2 c = sym (exit-sequence _ _ _ (ap not (eq-eqb _ _ (c .before .before .if1 .left))) (sym (c .before .met .ensures) ∙ c .if2 .taken))
-
-due-requires : tie.Need-due-requires
-due-requires c κs = search needs
 
 returns-3 : tie.Need-returns-3
 unfolding shares
@@ -41,4 +35,4 @@ returns-4 c =
     (sym (c .before .due .ensures) ∙ c .if3 .left))
 
 pub exit-of-spec : {M : Type 1} → statement M
-exit-of-spec = tie.close (tie.spec returns met-requires returns-2 due-requires returns-3 returns-4)
+exit-of-spec = tie.close (tie.spec returns (λ c κs. search needs) returns-2 (λ c κs. search needs) returns-3 returns-4)

@@ -12,12 +12,6 @@ returns : tie.Need-returns
 unfolding met
 returns c = rw (eq-eqb (c .before .before .args .node .channel) 0 (c .if1 .taken))
 
-sub-word-bit : tie.Need-sub-word-bit
-sub-word-bit c = search needs
-
-word-bit-requires : tie.Need-word-bit-requires
-word-bit-requires c κs = search needs
-
 returns-2 : tie.Need-returns-2
 unfolding met
 returns-2 c =
@@ -26,4 +20,4 @@ returns-2 c =
     (ap (λ (bit : ℕ). eqb bit (node .level)) (c .before .word-bit .ensures))
 
 pub met-spec : {M : Type 1} → statement M
-met-spec = tie.close (tie.spec returns sub-word-bit word-bit-requires returns-2)
+met-spec = tie.close (tie.spec returns (λ c. search needs) (λ c κs. search needs) returns-2)

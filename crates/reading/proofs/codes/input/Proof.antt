@@ -9,12 +9,6 @@ use Rattle.image.specs.Reading.{inputOf}
 use Rattle.reading.proofs.codes.input.Statement.{statement}
 use Rattle.reading.proofs.codes.input.Tie as tie
 
-field-requires : tie.Need-field-requires
-field-requires c κs = search needs
-
-cast-result : tie.Need-cast-result
-cast-result c = search needs
-
 array-copy-out-result : tie.Need-array-copy-out-result
 array-copy-out-result c = rw (c .field .ensures) (bits-lt _ 0 2)
 
@@ -22,24 +16,12 @@ returns : tie.Need-returns
 unfolding inputOf
 returns c = rw (lt-ltb _ _ (c .before .before .if1 .taken), c .before .field .ensures)
 
-field-requires-2 : tie.Need-field-requires-2
-field-requires-2 c κs = search needs
-
-cast-result-2 : tie.Need-cast-result-2
-cast-result-2 c = search needs
-
 array-copy-out-result-2 : tie.Need-array-copy-out-result-2
 array-copy-out-result-2 c = rw (c .field2 .ensures) (bits-lt _ 0 1)
 
 returns-2 : tie.Need-returns-2
 unfolding inputOf
 returns-2 c = rw (le-ltb _ _ (c .before .before .before .if1 .left), eq-eqb _ _ (c .before .before .if2 .taken), c .before .field2 .ensures) (getD-default highRanges _ VpMid VhLow (bits-lt _ 0 1))
-
-field-requires-3 : tie.Need-field-requires-3
-field-requires-3 c κs = search needs
-
-cast-result-3 : tie.Need-cast-result-3
-cast-result-3 c = search needs
 
 array-copy-out-result-3 : tie.Need-array-copy-out-result-3
 array-copy-out-result-3 c = rw (c .field3 .ensures) (bits-lt _ 0 2)
@@ -52,15 +34,15 @@ pub input-spec : {M : Type 1} → statement M
 input-spec =
     tie.close
     (tie.spec
-    field-requires
-    cast-result
+    (λ c κs. search needs)
+    (λ c. search needs)
     array-copy-out-result
     returns
-    field-requires-2
-    cast-result-2
+    (λ c κs. search needs)
+    (λ c. search needs)
     array-copy-out-result-2
     returns-2
-    field-requires-3
-    cast-result-3
+    (λ c κs. search needs)
+    (λ c. search needs)
     array-copy-out-result-3
     returns-3)

@@ -9,15 +9,9 @@ returns : tie.Need-returns
 unfolding printed
 returns c = rw (ne-eqb _ _ (c .if1 .taken))
 
-field-requires : tie.Need-field-requires
-field-requires c κs = search needs
-
-field-requires-2 : tie.Need-field-requires-2
-field-requires-2 c κs = search needs
-
 returns-2 : tie.Need-returns-2
 unfolding printed
 returns-2 c = rw (eq-eqb _ _ (c .before .before .if1 .left), c .field2 .ensures, c .before .field .ensures)
 
 pub is-printed-spec : {M : Type 1} → statement M
-is-printed-spec = tie.close (tie.spec returns field-requires field-requires-2 returns-2)
+is-printed-spec = tie.close (tie.spec returns (λ c κs. search needs) (λ c κs. search needs) returns-2)

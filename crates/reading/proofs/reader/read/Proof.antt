@@ -6,14 +6,8 @@ use Rattle.reading.proofs.ReadingLaws.{accepted-whole}
 use Rattle.reading.proofs.reader.read.Statement.{statement}
 use Rattle.reading.proofs.reader.read.Tie as tie
 
-image-verdict-requires : tie.Need-image-verdict-requires
-image-verdict-requires c κs = search needs
-
 read-groups-requires : tie.Need-read-groups-requires
 read-groups-requires c κs = accepted-whole _ (rw (c .before .before .image-verdict .ensures) at (c .if1 .taken))
-
-zero-requires : tie.Need-zero-requires
-zero-requires c κs = search needs
 
 returns : tie.Need-returns
 unfolding reading
@@ -26,4 +20,4 @@ returns-2 c = rw (← c .before .before .before .image-verdict .ensures, ne-eqb 
 pub read-spec : {M : Type 1} → statement M
 read-spec =
     tie.close
-    (tie.spec image-verdict-requires read-groups-requires zero-requires returns returns-2)
+    (tie.spec (λ c κs. search needs) read-groups-requires (λ c κs. search needs) returns returns-2)

@@ -19,46 +19,13 @@ Inv-loop image groups₀ k₀ groups k = (k ≤ 10) × (groups ≡ each (groupAt
 abbrev μ-loop : tie.MeasureT-loop
 μ-loop image groups₀ k₀ groups k = 10 - k
 
-zero-requires : tie.Need-zero-requires Inv-loop μ-loop
-zero-requires c κs = search needs
-
 loop-holds : tie.Need-loop-holds Inv-loop μ-loop
 unfolding each
 loop-holds c = (omega arith, refl)
 
-mul-read-group : tie.Need-mul-read-group Inv-loop μ-loop
-mul-read-group c = omega arith
-
-mul-read-group-2 : tie.Need-mul-read-group-2 Inv-loop μ-loop
-mul-read-group-2 c = omega arith
-
-add-read-group : tie.Need-add-read-group Inv-loop μ-loop
-add-read-group c = omega arith
-
-sub-read-group : tie.Need-sub-read-group Inv-loop μ-loop
-sub-read-group c = omega arith
-
-part-read-group-start : tie.Need-part-read-group-start Inv-loop μ-loop
-part-read-group-start c = omega arith
-
-part-read-group-end : tie.Need-part-read-group-end Inv-loop μ-loop
-part-read-group-end c = omega arith
-
 read-group-requires : tie.Need-read-group-requires Inv-loop μ-loop
 read-group-requires c κs =
     ap length (part-lent _ _) ∙ part-length _ _ (c .before .before .before .before .before .before .pre) (c .before .loop-test .taken)
-
-mul-groups : tie.Need-mul-groups Inv-loop μ-loop
-mul-groups c = omega arith
-
-array-set-from-groups : tie.Need-array-set-from-groups Inv-loop μ-loop
-array-set-from-groups c = omega arith
-
-add-k : tie.Need-add-k Inv-loop μ-loop
-add-k c = omega arith
-
-loop-less : tie.Need-loop-less Inv-loop μ-loop
-loop-less c = omega arith
 
 loop-again : tie.Need-loop-again Inv-loop μ-loop
 loop-again c =
@@ -79,18 +46,18 @@ read-groups-spec =
     (tie.spec
     Inv-loop
     μ-loop
-    zero-requires
+    (λ c κs. search needs)
     loop-holds
-    mul-read-group
-    mul-read-group-2
-    add-read-group
-    sub-read-group
-    part-read-group-start
-    part-read-group-end
+    (λ c. search needs)
+    (λ c. search needs)
+    (λ c. search needs)
+    (λ c. search needs)
+    (λ c. search needs)
+    (λ c. search needs)
     read-group-requires
-    mul-groups
-    array-set-from-groups
-    add-k
-    loop-less
+    (λ c. search needs)
+    (λ c. search needs)
+    (λ c. search needs)
+    (λ c. search needs)
     loop-again
     returns)

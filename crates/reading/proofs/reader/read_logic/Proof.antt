@@ -6,27 +6,12 @@ use Rattle.image.specs.Reading.{logicOf}
 use Rattle.reading.proofs.reader.read_logic.Statement.{statement}
 use Rattle.reading.proofs.reader.read_logic.Tie as tie
 
-no-logic-requires : tie.Need-no-logic-requires
-no-logic-requires c κs = search needs
-
 returns : tie.Need-returns
 unfolding logicOf
 returns c = rw (lt-leb _ _ (c .before .if1 .taken), c .no-logic .ensures)
 
-field-requires : tie.Need-field-requires
-field-requires c κs = search needs
-
-field-requires-2 : tie.Need-field-requires-2
-field-requires-2 c κs = search needs
-
-field-requires-3 : tie.Need-field-requires-3
-field-requires-3 c κs = search needs
-
 pulse-requires : tie.Need-pulse-requires
 pulse-requires c κs = rw (c .field3 .ensures) (bits-lt _ 3 2)
-
-field-requires-4 : tie.Need-field-requires-4
-field-requires-4 c κs = search needs
 
 time-requires : tie.Need-time-requires
 time-requires c κs = rw (c .field4 .ensures) (bits-lt _ 0 3)
@@ -43,12 +28,12 @@ pub read-logic-spec : {M : Type 1} → statement M
 read-logic-spec =
     tie.close
     (tie.spec
-    no-logic-requires
+    (λ c κs. search needs)
     returns
-    field-requires
-    field-requires-2
-    field-requires-3
+    (λ c κs. search needs)
+    (λ c κs. search needs)
+    (λ c κs. search needs)
     pulse-requires
-    field-requires-4
+    (λ c κs. search needs)
     time-requires
     returns-2)

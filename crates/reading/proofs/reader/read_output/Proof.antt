@@ -5,14 +5,8 @@ use Rattle.image.specs.Reading.{outputOf}
 use Rattle.reading.proofs.reader.read_output.Statement.{statement}
 use Rattle.reading.proofs.reader.read_output.Tie as tie
 
-field-requires : tie.Need-field-requires
-field-requires c κs = search needs
-
 source-requires : tie.Need-source-requires
 source-requires c κs = rw (c .field .ensures) (bits-lt _ 4 3)
-
-field-requires-2 : tie.Need-field-requires-2
-field-requires-2 c κs = search needs
 
 pull-requires : tie.Need-pull-requires
 pull-requires c κs = rw (c .field2 .ensures) (bits-lt _ 0 4)
@@ -25,4 +19,4 @@ returns c =
 
 pub read-output-spec : {M : Type 1} → statement M
 read-output-spec =
-    tie.close (tie.spec field-requires source-requires field-requires-2 pull-requires returns)
+    tie.close (tie.spec (λ c κs. search needs) source-requires (λ c κs. search needs) pull-requires returns)

@@ -4,12 +4,9 @@ use Rattle.image.specs.Reading.{thresholdOf}
 use Rattle.reading.proofs.reader.read_threshold.Statement.{statement}
 use Rattle.reading.proofs.reader.read_threshold.Tie as tie
 
-field-requires : tie.Need-field-requires
-field-requires c κs = search needs
-
 returns : tie.Need-returns
 unfolding thresholdOf
 returns c = rw (c .field .ensures)
 
 pub read-threshold-spec : {M : Type 1} → statement M
-read-threshold-spec = tie.close (tie.spec field-requires returns)
+read-threshold-spec = tie.close (tie.spec (λ c κs. search needs) returns)

@@ -21,9 +21,6 @@ six c =
     ⊎-elim (λ w. w .1 ∙ sym (ap (λ (b : Bool). cond b 7 0) (lt-leb _ _ (w .0 .taken))))
     (λ w. w .1 ∙ sym (ap (λ (b : Bool). cond b 7 0) (le-leb _ _ (w .0 .left)))) (c .if2 .came)
 
-array-read-result : tie.Need-array-read-result
-array-read-result c = search needs
-
 returns : tie.Need-returns
 returns c =
     let a = c .before .before .args in
@@ -31,4 +28,4 @@ returns c =
     (is, subst (λ (n : ℕ). n < 9) (sym is) (reserved-below (a .k) (a .j)))
 
 pub reserved-from-spec : {M : Type 1} → statement M
-reserved-from-spec = tie.close (tie.spec array-read-result returns)
+reserved-from-spec = tie.close (tie.spec (λ c. search needs) returns)

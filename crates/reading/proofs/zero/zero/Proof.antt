@@ -6,19 +6,10 @@ use Rattle.image.specs.Reading.{zeroSettings, zeroGroup, inputOf}
 use Rattle.reading.proofs.zero.zero.Statement.{statement}
 use Rattle.reading.proofs.zero.zero.Tie as tie
 
-zero-group-requires : tie.Need-zero-group-requires
-zero-group-requires c κs = search needs
-
-zero-group-requires-2 : tie.Need-zero-group-requires-2
-zero-group-requires-2 c κs = search needs
-
-zero-group-requires-3 : tie.Need-zero-group-requires-3
-zero-group-requires-3 c κs = search needs
-
 returns : tie.Need-returns
 unfolding zeroSettings zeroGroup inputOf each bits
 returns c = rw (c .before .before .zero-group .ensures, c .before .zero-group2 .ensures, c .zero-group3 .ensures)
 
 pub zero-spec : {M : Type 1} → statement M
 zero-spec =
-    tie.close (tie.spec zero-group-requires zero-group-requires-2 zero-group-requires-3 returns)
+    tie.close (tie.spec (λ c κs. search needs) (λ c κs. search needs) (λ c κs. search needs) returns)

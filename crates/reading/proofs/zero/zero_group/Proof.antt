@@ -4,12 +4,9 @@ use Rattle.image.specs.Reading.{zeroGroupOf}
 use Rattle.reading.proofs.zero.zero_group.Statement.{statement}
 use Rattle.reading.proofs.zero.zero_group.Tie as tie
 
-no-logic-requires : tie.Need-no-logic-requires
-no-logic-requires c κs = search needs
-
 returns : tie.Need-returns
 unfolding zeroGroupOf
 returns c = rw (c .no-logic .ensures)
 
 pub zero-group-spec : {M : Type 1} → statement M
-zero-group-spec = tie.close (tie.spec no-logic-requires returns)
+zero-group-spec = tie.close (tie.spec (λ c κs. search needs) returns)

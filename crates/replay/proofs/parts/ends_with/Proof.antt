@@ -7,46 +7,10 @@ use Rattle.replay.proofs.parts.ends_with.Statement.{statement}
 use Rattle.replay.proofs.parts.ends_with.Tie as tie
 
 abbrev Inv-loop : tie.InvT-loop
-Inv-loop lent expected at i₀ i = (length expected ≡ at + length lent) × (i ≤ length lent)
+Inv-loop lent expected at count i₀ i = (count ≡ length lent) × (length expected ≡ at + count) × (i ≤ count)
 
 abbrev μ-loop : tie.MeasureT-loop
-μ-loop lent expected at i₀ i = length lent - i
-
-returns : tie.Need-returns Inv-loop μ-loop
-returns c = search needs
-
-sub-if2 : tie.Need-sub-if2 Inv-loop μ-loop
-sub-if2 c = search needs
-
-returns-2 : tie.Need-returns-2 Inv-loop μ-loop
-returns-2 c = search needs
-
-loop-holds : tie.Need-loop-holds Inv-loop μ-loop
-loop-holds c = search needs
-
-shared-slice-read-if3 : tie.Need-shared-slice-read-if3 Inv-loop μ-loop
-shared-slice-read-if3 c = search needs
-
-add-if3 : tie.Need-add-if3 Inv-loop μ-loop
-add-if3 c = search needs
-
-shared-slice-read-if3-2 : tie.Need-shared-slice-read-if3-2 Inv-loop μ-loop
-shared-slice-read-if3-2 c = search needs
-
-returns-3 : tie.Need-returns-3 Inv-loop μ-loop
-returns-3 c = search needs
-
-add-i : tie.Need-add-i Inv-loop μ-loop
-add-i c = search needs
-
-loop-less : tie.Need-loop-less Inv-loop μ-loop
-loop-less c = search needs
-
-loop-again : tie.Need-loop-again Inv-loop μ-loop
-loop-again c = search needs
-
-returns-4 : tie.Need-returns-4 Inv-loop μ-loop
-returns-4 c = search needs
+μ-loop lent expected at count i₀ i = count - i
 
 pub ends-with-spec : {M : Type 1} → statement M
 ends-with-spec =
@@ -54,15 +18,15 @@ ends-with-spec =
     (tie.spec
     Inv-loop
     μ-loop
-    returns
-    sub-if2
-    returns-2
-    loop-holds
-    shared-slice-read-if3
-    add-if3
-    shared-slice-read-if3-2
-    returns-3
-    add-i
-    loop-less
-    loop-again
-    returns-4)
+    (λ c. search needs)
+    (λ c. search needs)
+    (λ c. search needs)
+    (λ c. search needs)
+    (λ c. search needs)
+    (λ c. search needs)
+    (λ c. search needs)
+    (λ c. search needs)
+    (λ c. search needs)
+    (λ c. search needs)
+    (λ c. search needs)
+    (λ c. search needs))

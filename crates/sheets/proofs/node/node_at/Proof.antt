@@ -7,18 +7,6 @@ use Rattle.steps.specs.declared.step.Step.{Step}
 use Rattle.sheets.proofs.node.node_at.Statement.{statement}
 use Rattle.sheets.proofs.node.node_at.Tie as tie
 
-step-at-requires : tie.Need-step-at-requires
-step-at-requires c κs = search needs
-
-target-requires : tie.Need-target-requires
-target-requires c κs = search needs
-
-target-requires-2 : tie.Need-target-requires-2
-target-requires-2 c κs = search needs
-
-target-requires-3 : tie.Need-target-requires-3
-target-requires-3 c κs = search needs
-
 returns : tie.Need-returns
 unfolding nodeAt
 returns c =
@@ -42,4 +30,4 @@ returns c =
 pub node-at-spec : {M : Type 1} → statement M
 node-at-spec =
     tie.close
-    (tie.spec step-at-requires target-requires target-requires-2 target-requires-3 returns)
+    (tie.spec (λ c κs. search needs) (λ c κs. search needs) (λ c κs. search needs) (λ c κs. search needs) returns)

@@ -9,12 +9,9 @@ returns : tie.Need-returns
 unfolding target
 returns c = rw (eq-eqb (c .before .before .args .jump) 0 (c .if1 .taken))
 
-look-up-requires : tie.Need-look-up-requires
-look-up-requires c κs = search needs
-
 returns-2 : tie.Need-returns-2
 unfolding target
 returns-2 c = rw (ne-eqb (c .before .before .before .args .jump) 0 (c .before .if1 .left)) (c .look-up .ensures)
 
 pub target-spec : {M : Type 1} → statement M
-target-spec = tie.close (tie.spec returns look-up-requires returns-2)
+target-spec = tie.close (tie.spec returns (λ c κs. search needs) returns-2)

@@ -8,18 +8,6 @@ use Rattle.steps.specs.declared.step.Step.{Step}
 use Rattle.sheets.proofs.verdict.jumps_known.Statement.{statement}
 use Rattle.sheets.proofs.verdict.jumps_known.Tie as tie
 
-step-at-requires : tie.Need-step-at-requires
-step-at-requires c κs = search needs
-
-known-requires : tie.Need-known-requires
-known-requires c κs = search needs
-
-known-requires-2 : tie.Need-known-requires-2
-known-requires-2 c κs = search needs
-
-known-requires-3 : tie.Need-known-requires-3
-known-requires-3 c κs = search needs
-
 returns : tie.Need-returns
 unfolding jumpsKnown
 returns c =
@@ -33,4 +21,4 @@ returns c =
 
 pub jumps-known-spec : {M : Type 1} → statement M
 jumps-known-spec =
-    tie.close (tie.spec step-at-requires known-requires known-requires-2 known-requires-3 returns)
+    tie.close (tie.spec (λ c κs. search needs) (λ c κs. search needs) (λ c κs. search needs) (λ c κs. search needs) returns)

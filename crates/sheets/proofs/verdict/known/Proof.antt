@@ -11,12 +11,6 @@ returns : tie.Need-returns
 unfolding known
 returns c = rw (eq-eqb (c .before .before .args .jump) 0 (c .if1 .taken))
 
-look-up-requires : tie.Need-look-up-requires
-look-up-requires c κs = search needs
-
-step-count-requires : tie.Need-step-count-requires
-step-count-requires c κs = search needs
-
 returns-2 : tie.Need-returns-2
 unfolding known
 returns-2 c =
@@ -24,4 +18,4 @@ returns-2 c =
     (ap₂ ltb (c .before .look-up .ensures) (c .step-count .ensures))
 
 pub known-spec : {M : Type 1} → statement M
-known-spec = tie.close (tie.spec returns look-up-requires step-count-requires returns-2)
+known-spec = tie.close (tie.spec returns (λ c κs. search needs) (λ c κs. search needs) returns-2)

@@ -5,9 +5,6 @@ use Rattle.steps.specs.Steps.{stepCount}
 use Rattle.steps.proofs.step.step_count.Statement.{statement}
 use Rattle.steps.proofs.step.step_count.Tie as tie
 
-cast-result : tie.Need-cast-result
-cast-result c = search needs
-
 returns : tie.Need-returns
 unfolding stepCount
 returns c = omega arith
@@ -17,4 +14,4 @@ unfolding stepCount
 returns-2 c = omega arith
 
 pub step-count-spec : {M : Type 1} → statement M
-step-count-spec = tie.close (tie.spec cast-result returns returns-2)
+step-count-spec = tie.close (tie.spec (λ c. search needs) returns returns-2)

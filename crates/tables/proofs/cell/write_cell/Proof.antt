@@ -1,8 +1,7 @@
 -- `tables::cell::write_cell` meets its contract: a part of twelve bytes becomes the cell's bytes, and any other stays. Assumes nothing.
-use mathlib.Core.Path.{_≡_, ap, sym, _∙_}
-use mathlib.Core.List.{List}
 use Prim.Native.Nat.{ℕ}
-use lib.ListN.{length}
+use mathlib.Core.Path.{ap, sym, _∙_}
+use mathlib.Core.List.{List}
 use denote.Ref.{now}
 use borrow.Author.Needs.{needs}
 use Rattle.records.specs.Lists.{copied}
@@ -13,29 +12,11 @@ use Rattle.tables.proofs.TableLaws.{part-taken, part-refused}
 use Rattle.tables.proofs.cell.write_cell.Statement.{statement}
 use Rattle.tables.proofs.cell.write_cell.Tie as tie
 
-refuse-unless-requires : tie.Need-refuse-unless-requires
-refuse-unless-requires c κs = search needs
-
 returns : tie.Need-returns
 returns c =
     let s = c .before .before .before in
     let kept = part-refused (s .args .cell) (now (s .args .part)) (c .before .if1 .taken) in
-    (c .refuse-unless .ensures ∙ kept .0, kept .1)
-
-cell-bytes-requires : tie.Need-cell-bytes-requires
-cell-bytes-requires c κs = search needs
-
-slice-aggregate-copy : tie.Need-slice-aggregate-copy
-slice-aggregate-copy c = search needs
-
-copy-requires : tie.Need-copy-requires
-copy-requires c κs = search needs
-
-refuse-unless-requires-2 : tie.Need-refuse-unless-requires-2
-refuse-unless-requires-2 c κs = search needs
-
-same-length : tie.Need-same-length
-same-length c = search needs
+    (c .refused .ensures ∙ kept .0, kept .1)
 
 returns-2 : tie.Need-returns-2
 returns-2 c =
@@ -45,7 +26,7 @@ returns-2 c =
     let s = left .before .before in
     let part = now (s .args .part) in
     let written = part-taken (s .args .cell) part (left .if1 .left) in (
-      c .refuse-unless2 .ensures ∙ written .0,
+      c .accepted .ensures ∙ written .0,
       wrote .copy .ensures
           ∙ ap (λ (bytes : List ℕ). copied bytes part) (made .cell-bytes .ensures)
           ∙ copied-whole (cellBytes (s .args .cell)) part (left .if1 .left ∙ sym (cell-length (s .args .cell)))
@@ -56,11 +37,11 @@ pub write-cell-spec : {M : Type 1} → statement M
 write-cell-spec =
     tie.close
     (tie.spec
-    refuse-unless-requires
+    (λ c κs. search needs)
     returns
-    cell-bytes-requires
-    slice-aggregate-copy
-    copy-requires
-    refuse-unless-requires-2
-    same-length
+    (λ c κs. search needs)
+    (λ c. search needs)
+    (λ c κs. search needs)
+    (λ c κs. search needs)
+    (λ c. search needs)
     returns-2)

@@ -1,121 +1,64 @@
--- `tables::fields::cell_fault` meets its contract: its ten tests are the definition's, joined from the last to the first. Assumes nothing.
+-- `tables::fields::cell_fault` meets its contract: its ten tests are the definition's, in their order. Assumes nothing.
+use native.Mathlib.Omega.{arith}
+use lib.Dec.{leb}
+use mathlib.Core.Path.{refl}
 use borrow.Author.Needs.{needs}
-use Rattle.records.proofs.VerdictLaws.{first-none, first-tested}
+use Rattle.records.proofs.VerdictLaws.{first-chained, chained, chain-more, unless-accepted}
 use Rattle.machine.specs.Fields.{outputsInRange, maskInRange, channelInRange, levelInRange, levelAllowed}
 use Rattle.tables.specs.Tables.{cellFault}
 use Rattle.tables.proofs.fields.cell_fault.Statement.{statement}
 use Rattle.tables.proofs.fields.cell_fault.Tie as tie
 
-refuse-unless-requires : tie.Need-refuse-unless-requires
-refuse-unless-requires c κs = search needs
-
-refuse-unless-requires-2 : tie.Need-refuse-unless-requires-2
-refuse-unless-requires-2 c κs = search needs
-
-or-else-requires : tie.Need-or-else-requires
-or-else-requires c κs = search needs
-
-next-fault-requires : tie.Need-next-fault-requires
-next-fault-requires c κs = search needs
-
-or-else-requires-2 : tie.Need-or-else-requires-2
-or-else-requires-2 c κs = search needs
-
-refuse-unless-requires-3 : tie.Need-refuse-unless-requires-3
-refuse-unless-requires-3 c κs = search needs
-
-or-else-requires-3 : tie.Need-or-else-requires-3
-or-else-requires-3 c κs = search needs
-
-next-fault-requires-2 : tie.Need-next-fault-requires-2
-next-fault-requires-2 c κs = search needs
-
-or-else-requires-4 : tie.Need-or-else-requires-4
-or-else-requires-4 c κs = search needs
-
-refuse-unless-requires-4 : tie.Need-refuse-unless-requires-4
-refuse-unless-requires-4 c κs = search needs
-
-or-else-requires-5 : tie.Need-or-else-requires-5
-or-else-requires-5 c κs = search needs
-
-refuse-unless-requires-5 : tie.Need-refuse-unless-requires-5
-refuse-unless-requires-5 c κs = search needs
-
-or-else-requires-6 : tie.Need-or-else-requires-6
-or-else-requires-6 c κs = search needs
-
-refuse-unless-requires-6 : tie.Need-refuse-unless-requires-6
-refuse-unless-requires-6 c κs = search needs
-
-or-else-requires-7 : tie.Need-or-else-requires-7
-or-else-requires-7 c κs = search needs
-
-next-fault-requires-3 : tie.Need-next-fault-requires-3
-next-fault-requires-3 c κs = search needs
-
-or-else-requires-8 : tie.Need-or-else-requires-8
-or-else-requires-8 c κs = search needs
-
-refuse-unless-requires-7 : tie.Need-refuse-unless-requires-7
-refuse-unless-requires-7 c κs = search needs
-
-or-else-requires-9 : tie.Need-or-else-requires-9
-or-else-requires-9 c κs = search needs
-
-refuse-unless-requires-8 : tie.Need-refuse-unless-requires-8
-refuse-unless-requires-8 c κs = search needs
-
-or-else-requires-10 : tie.Need-or-else-requires-10
-or-else-requires-10 c κs = search needs
-
 returns : tie.Need-returns
-unfolding cellFault outputsInRange maskInRange channelInRange levelInRange levelAllowed
+unfolding cellFault outputsInRange maskInRange channelInRange levelInRange levelAllowed chained
 returns c =
-    let mask = c .before .before .before in
-    let fault = mask .before .before .before in
-    let channel = fault .before .before .before in
-    let level = channel .before .before .before in
-    let allowed = level .before .before .before in
-    let sequence = allowed .before .before .before .before in
-    let timeout = sequence .before .before .before in
-    let timeoutto = timeout .before .before .before in
-    let step = timeoutto .before .before .before in
-    first-tested _ (c .or-else10 .ensures) (c .before .refuse-unless8 .ensures)
-    (first-tested _ (mask .or-else9 .ensures) (mask .before .refuse-unless7 .ensures)
-    (first-tested _ (fault .or-else8 .ensures) (fault .before .next-fault3 .ensures)
-    (first-tested _ (channel .or-else7 .ensures) (channel .before .refuse-unless6 .ensures)
-    (first-tested _ (level .or-else6 .ensures) (level .before .refuse-unless5 .ensures)
-    (first-tested _ (allowed .or-else5 .ensures) (allowed .before .refuse-unless4 .ensures)
-    (first-tested _ (sequence .or-else4 .ensures) (sequence .before .next-fault2 .ensures)
-    (first-tested _ (timeout .or-else3 .ensures) (timeout .before .refuse-unless3 .ensures)
-    (first-tested _ (timeoutto .or-else2 .ensures) (timeoutto .before .next-fault .ensures)
-    (first-tested _ (step .or-else .ensures) (step .before .refuse-unless2 .ensures)
-    (first-none (step .before .before .before .refuse-unless .ensures)))))))))))
+    let timeoutto = c .before .before in
+    let timeout = timeoutto .before .before .before in
+    let sequence = timeout .before .before in
+    let allowed = sequence .before .before .before in
+    let level = allowed .before .before .before in
+    let channel = level .before .before in
+    let fault = channel .before .before in
+    let mask = fault .before .before .before in
+    let outputs = mask .before .before in
+    let a = outputs .before .before .before .args in
+    first-chained _ _ (unless-accepted (leb (a .cell .step) 62) 12 11 (λ z. omega arith))
+    (chain-more (c .unless7 .ensures)
+    (chain-more (timeoutto .then3 .ensures)
+    (chain-more (timeout .unless6 .ensures)
+    (chain-more (sequence .then2 .ensures)
+    (chain-more (allowed .unless5 .ensures)
+    (chain-more (level .unless4 .ensures)
+    (chain-more (channel .unless3 .ensures)
+    (chain-more (fault .then .ensures)
+    (chain-more (mask .unless2 .ensures)
+    (chain-more (outputs .unless .ensures) (outputs .before .before .accepted .ensures) refl)
+    refl)
+    (fault .before .next-fault .ensures))
+    refl)
+    refl)
+    refl)
+    (sequence .before .next-fault2 .ensures))
+    refl)
+    (timeoutto .before .next-fault3 .ensures))
+    refl)
 
 pub cell-fault-spec : {M : Type 1} → statement M
 cell-fault-spec =
     tie.close
     (tie.spec
-    refuse-unless-requires
-    refuse-unless-requires-2
-    or-else-requires
-    next-fault-requires
-    or-else-requires-2
-    refuse-unless-requires-3
-    or-else-requires-3
-    next-fault-requires-2
-    or-else-requires-4
-    refuse-unless-requires-4
-    or-else-requires-5
-    refuse-unless-requires-5
-    or-else-requires-6
-    refuse-unless-requires-6
-    or-else-requires-7
-    next-fault-requires-3
-    or-else-requires-8
-    refuse-unless-requires-7
-    or-else-requires-9
-    refuse-unless-requires-8
-    or-else-requires-10
+    (λ c κs. search needs)
+    (λ c κs. search needs)
+    (λ c κs. search needs)
+    (λ c κs. search needs)
+    (λ c κs. search needs)
+    (λ c κs. search needs)
+    (λ c κs. search needs)
+    (λ c κs. search needs)
+    (λ c κs. search needs)
+    (λ c κs. search needs)
+    (λ c κs. search needs)
+    (λ c κs. search needs)
+    (λ c κs. search needs)
+    (λ c κs. search needs)
     returns)

@@ -1,86 +1,62 @@
--- `tables::verdict::table_verdict` meets its contract. The loop's invariant: the cells that are left give the whole answer.
--- The measure is their number. Assumes nothing.
-use Prim.Native.Nat.{_-_}
-use mathlib.Core.Path.{_≡_, sym, _∙_}
+-- `tables::verdict::table_verdict` meets its contract. The invariant: the cells from k on give the whole verdict. Assumes nothing.
+use Prim.Native.Nat.{_-_, _≤_}
+use mathlib.Core.Path.{_≡_, refl, sym, _∙_}
 use mathlib.Core.Bool.{true}
 use native.Mathlib.Omega.{arith}
+use lib.ListN.{length}
 use denote.Ref.{now}
 use borrow.Author.Needs.{needs}
 use borrow.Author.Tests.{not-true, not-false}
-use Rattle.records.specs.Lists.{each}
-use Rattle.records.specs.Verdicts.{firstRefusal}
-use Rattle.records.proofs.VerdictLaws.{found-hit, found-pass, search-end}
+use Rattle.records.proofs.ReturnLaws.{test-refuses, test-passes}
+use Rattle.records.proofs.TestLaws.{whole-test}
+use Rattle.records.proofs.VerdictLaws.{Searched, searched-none, searched-pass, searched-hit, searched-end}
 use Rattle.tables.specs.Tables.{isTable, cellCount, fieldsVerdict, tableVerdict}
-use Rattle.tables.proofs.TableLaws.{table-most, table-refused, table-cells}
+use Rattle.tables.proofs.TableLaws.{fields-of}
 use Rattle.tables.proofs.verdict.table_verdict.Statement.{statement}
 use Rattle.tables.proofs.verdict.table_verdict.Tie as tie
 
 abbrev Inv-loop : tie.InvT-loop
-Inv-loop table cells k₀ k = tableVerdict table ≡ firstRefusal (each (fieldsVerdict table) k (cellCount table - k))
+Inv-loop table cells k₀ k = Searched (tableVerdict table) (fieldsVerdict table) cells k
 
 abbrev μ-loop : tie.MeasureT-loop
 μ-loop table cells k₀ k = cells - k
 
-is-table-requires : tie.Need-is-table-requires Inv-loop μ-loop
-is-table-requires c κs = search needs
-
-refuse-unless-requires : tie.Need-refuse-unless-requires Inv-loop μ-loop
-refuse-unless-requires c κs = search needs
-
 returns : tie.Need-returns Inv-loop μ-loop
+unfolding tableVerdict
 returns c =
-    let told = c .before .before in
-    c .refuse-unless .ensures ∙ table-refused _ (sym (told .is-table .ensures) ∙ not-true _ (c .before .if1 .taken))
+    test-refuses _ (isTable _) 1 0 (λ z. omega arith) (sym (c .before .before .is-table .ensures) ∙ not-true _ (c .before .if1 .taken)) (c .refused .ensures)
 
 -- the length is a table's where the loop is reached
 right : (c : tie.Else1 Inv-loop μ-loop) → isTable (now (c .before .before .before .args .table)) ≡ true
 right c = sym (c .before .is-table .ensures) ∙ not-false _ (c .if1 .left)
 
-cast-cells : tie.Need-cast-cells Inv-loop μ-loop
-cast-cells c = omega (arith, table-most _ (right c))
+most : (c : tie.Else1 Inv-loop μ-loop) → length (now (c .before .before .before .args .table)) ≤ 756
+unfolding isTable
+most c = whole-test 12 _ .0 (right c) .most
 
 loop-holds : tie.Need-loop-holds Inv-loop μ-loop
-loop-holds c = table-cells _ (right c)
+unfolding tableVerdict cellCount
+loop-holds c = searched-none refl (sym (test-passes _ _ 1 0 (right c) refl))
 
-fields-verdict-requires : tie.Need-fields-verdict-requires Inv-loop μ-loop
-fields-verdict-requires c κs = search needs
+-- the verdict that the code made is cell k's
+verdict-of : (c : tie.After-fields-verdict Inv-loop μ-loop)
+    → c .fields-verdict .result ≡ fieldsVerdict (now (c .before .before .before .before .before .before .before .args .table)) (c .before .before .before .loop .k)
+verdict-of c = fields-of _ _ (c .fields-verdict .ensures) (c .before .cell-at .ensures)
 
 returns-2 : tie.Need-returns-2 Inv-loop μ-loop
-unfolding cellCount
 returns-2 c =
-    let told = c .before .before in
-    let turn = told .before in
-    let top = turn .before in
-    let table = now (top .before .before .before .before .args .table) in
-    sym (top .loop .inv ∙ found-hit (fieldsVerdict table) (top .loop .k) (cellCount table) _ (told .fields-verdict .ensures) (turn .loop-test .taken) (c .if2 .taken))
-
-add-k : tie.Need-add-k Inv-loop μ-loop
-add-k c =
-    let turn = c .before .before .before in
-    omega (arith, turn .loop-test .taken, table-most _ (right (turn .before .before)))
-
-loop-less : tie.Need-loop-less Inv-loop μ-loop
-loop-less c = omega (arith, c .before .before .before .loop-test .taken)
+    let made = c .before .before in
+    let turn = made .before .before in
+    searched-hit (turn .before .loop .inv) (turn .loop-test .taken) (verdict-of made) (c .if2 .taken)
 
 loop-again : tie.Need-loop-again Inv-loop μ-loop
-unfolding cellCount
 loop-again c =
-    let told = c .before .before in
-    let turn = told .before in
-    let top = turn .before in
-    let table = now (top .before .before .before .before .args .table) in
-    top .loop .inv ∙ found-pass (fieldsVerdict table) (top .loop .k) (cellCount table) _ (told .fields-verdict .ensures) (turn .loop-test .taken) (c .if2 .left)
-
-refuse-unless-requires-2 : tie.Need-refuse-unless-requires-2 Inv-loop μ-loop
-refuse-unless-requires-2 c κs = search needs
+    let made = c .before .before in
+    let turn = made .before .before in
+    searched-pass (turn .before .loop .inv) (turn .loop-test .taken) (verdict-of made) (c .if2 .left)
 
 returns-3 : tie.Need-returns-3 Inv-loop μ-loop
-unfolding cellCount
-returns-3 c =
-    let top = c .before .before in
-    let table = now (top .before .before .before .before .args .table) in
-    c .refuse-unless2 .ensures
-    ∙ sym (top .loop .inv ∙ search-end (fieldsVerdict table) (top .loop .k) (cellCount table) (c .before .loop-test .left))
+returns-3 c = c .accepted .ensures ∙ searched-end (c .before .before .loop .inv) (c .before .loop-test .left)
 
 pub table-verdict-spec : {M : Type 1} → statement M
 table-verdict-spec =
@@ -88,15 +64,17 @@ table-verdict-spec =
     (tie.spec
     Inv-loop
     μ-loop
-    is-table-requires
-    refuse-unless-requires
+    (λ c κs. search needs)
+    (λ c κs. search needs)
     returns
-    cast-cells
+    (λ c. omega (arith, most c))
     loop-holds
-    fields-verdict-requires
+    (λ c. search needs)
+    (λ c κs. search needs)
+    (λ c κs. search needs)
     returns-2
-    add-k
-    loop-less
+    (λ c. omega (arith, most (c .before .before .before .before .before .before)))
+    (λ c. omega arith)
     loop-again
-    refuse-unless-requires-2
+    (λ c κs. search needs)
     returns-3)

@@ -8,9 +8,6 @@ use Rattle.text.proofs.TextLaws.{line-bytes, written-length}
 use Rattle.text.proofs.Line.count.Statement.{statement}
 use Rattle.text.proofs.Line.count.Tie as tie
 
-least-requires : tie.Need-least-requires
-least-requires c κs = search needs
-
 returns : tie.Need-returns
 returns c =
     let line = c .before .args .self in
@@ -18,4 +15,4 @@ returns c =
     (counts _ _ (omega arith), omega (arith, written-length line whole))
 
 pub count-spec : {M : Type 1} → statement M
-count-spec = tie.close (tie.spec least-requires returns)
+count-spec = tie.close (tie.spec (λ c κs. search needs) returns)

@@ -6,18 +6,6 @@ use Rattle.text.proofs.TextLaws.{hex-fewest}
 use Rattle.text.proofs.Line.hex.Statement.{statement}
 use Rattle.text.proofs.Line.hex.Tie as tie
 
-hex-requires : tie.Need-hex-requires
-hex-requires c κs = search needs
-
-array-share-prefix-digits : tie.Need-array-share-prefix-digits
-array-share-prefix-digits c = search needs
-
-slice-aggregate-word : tie.Need-slice-aggregate-word
-slice-aggregate-word c = search needs
-
-word-requires : tie.Need-word-requires
-word-requires c κs = search needs
-
 returns : tie.Need-returns
 returns c =
     let spelt = c .before .before in
@@ -27,4 +15,4 @@ returns c =
     (spelt .hex .ensures .1 .1 ∙ hex-fewest (entry .args .width) (entry .args .number) (spelt .hex .result) (entry .fits .number .fits) (spelt .hex .ensures .1 .0))
 
 pub hex-spec : {M : Type 1} → statement M
-hex-spec = tie.close (tie.spec hex-requires array-share-prefix-digits slice-aggregate-word word-requires returns)
+hex-spec = tie.close (tie.spec (λ c κs. search needs) (λ c. search needs) (λ c. search needs) (λ c κs. search needs) returns)

@@ -8,15 +8,6 @@ use Rattle.text.proofs.TextLaws.{appended-twice}
 use Rattle.text.proofs.Line.item.Statement.{statement}
 use Rattle.text.proofs.Line.item.Tie as tie
 
-slice-aggregate-word : tie.Need-slice-aggregate-word
-slice-aggregate-word c = search needs
-
-word-requires : tie.Need-word-requires
-word-requires c κs = search needs
-
-decimal-requires : tie.Need-decimal-requires
-decimal-requires c κs = search needs
-
 returns : tie.Need-returns
 returns c =
     let a = c .before .before .before .args in
@@ -25,4 +16,4 @@ returns c =
     ∙ appended-twice (a .self) (32 ∷ []) (decimalText (a .number))
 
 pub item-spec : {M : Type 1} → statement M
-item-spec = tie.close (tie.spec slice-aggregate-word word-requires decimal-requires returns)
+item-spec = tie.close (tie.spec (λ c. search needs) (λ c κs. search needs) (λ c κs. search needs) returns)

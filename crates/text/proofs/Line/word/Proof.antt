@@ -20,34 +20,13 @@ abbrev μ-loop : tie.MeasureT-loop
 whole : (c : tie.Start Inv-loop μ-loop) → length (c .args .self .bytes) ≡ 256
 whole c = line-bytes (c .args .self) _ (c .good .0)
 
-count-requires : tie.Need-count-requires Inv-loop μ-loop
-count-requires c κs = search needs
-
 sub-least : tie.Need-sub-least Inv-loop μ-loop
 sub-least c = omega (arith, whole (c .before .before))
-
-least-requires : tie.Need-least-requires Inv-loop μ-loop
-least-requires c κs = search needs
 
 loop-holds : tie.Need-loop-holds Inv-loop μ-loop
 loop-holds c =
     let a = c .before .before .before .before .args in
     (whole (c .before .before .before .before), omega arith, paste-zero (a .self .bytes) (c .before .before .count .result) (a .text .now))
-
-shared-slice-read-bytes : tie.Need-shared-slice-read-bytes Inv-loop μ-loop
-shared-slice-read-bytes c = search needs
-
-add-bytes : tie.Need-add-bytes Inv-loop μ-loop
-add-bytes c = search needs
-
-array-write-bytes : tie.Need-array-write-bytes Inv-loop μ-loop
-array-write-bytes c = search needs
-
-add-i : tie.Need-add-i Inv-loop μ-loop
-add-i c = search needs
-
-loop-less : tie.Need-loop-less Inv-loop μ-loop
-loop-less c = search needs
 
 loop-again : tie.Need-loop-again Inv-loop μ-loop
 loop-again c =
@@ -62,9 +41,6 @@ loop-again c =
           ∙ paste-suc (a .self .bytes) start (a .text .now) (l .i) 0 (omega arith) (omega arith)
           ∙ ap (paste (a .self .bytes) start (a .text .now)) (sym (add-one (l .i))),
     )
-
-add-t7 : tie.Need-add-t7 Inv-loop μ-loop
-add-t7 c = search needs
 
 returns : tie.Need-returns Inv-loop μ-loop
 returns c =
@@ -86,15 +62,15 @@ word-spec =
     (tie.spec
     Inv-loop
     μ-loop
-    count-requires
+    (λ c κs. search needs)
     sub-least
-    least-requires
+    (λ c κs. search needs)
     loop-holds
-    shared-slice-read-bytes
-    add-bytes
-    array-write-bytes
-    add-i
-    loop-less
+    (λ c. search needs)
+    (λ c. search needs)
+    (λ c. search needs)
+    (λ c. search needs)
+    (λ c. search needs)
     loop-again
-    add-t7
+    (λ c. search needs)
     returns)

@@ -9,15 +9,9 @@ returns : tie.Need-returns
 unfolding cellsFor
 returns c = omega arith
 
-sub-result : tie.Need-sub-result
-sub-result c = search needs
-
-add-result : tie.Need-add-result
-add-result c = search needs
-
 returns-2 : tie.Need-returns-2
 unfolding cellsFor
 returns-2 c = omega arith
 
 pub cells-for-spec : {M : Type 1} → statement M
-cells-for-spec = tie.close (tie.spec returns sub-result add-result returns-2)
+cells-for-spec = tie.close (tie.spec returns (λ c. search needs) (λ c. search needs) returns-2)

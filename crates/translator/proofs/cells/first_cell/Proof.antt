@@ -5,7 +5,7 @@ use native.Mathlib.Omega.{arith}
 use native.Mathlib.Numerals.{add-one}
 use denote.Ref.{now}
 use borrow.Author.Needs.{needs}
-use Rattle.translator.specs.Translation.{cellsFor, cellsOf, firstCell}
+use Rattle.translator.specs.Translation.{cellsOf, firstCell}
 use Rattle.translator.proofs.CellCounts.{first-zero, first-suc}
 use Rattle.translator.proofs.cells.first_cell.Statement.{statement}
 use Rattle.translator.proofs.cells.first_cell.Tie as tie
@@ -19,29 +19,12 @@ abbrev μ-loop : tie.MeasureT-loop
 loop-holds : tie.Need-loop-holds Inv-loop μ-loop
 loop-holds c = (sym (first-zero _), omega arith, omega arith)
 
-timeout-requires : tie.Need-timeout-requires Inv-loop μ-loop
-timeout-requires c κs = search needs
-
-cells-for-requires : tie.Need-cells-for-requires Inv-loop μ-loop
-cells-for-requires c κs = search needs
-
-add-first : tie.Need-add-first Inv-loop μ-loop
-add-first c = omega arith
-
-add-i : tie.Need-add-i Inv-loop μ-loop
-add-i c = omega arith
-
-loop-less : tie.Need-loop-less Inv-loop μ-loop
-loop-less c = omega arith
-
 loop-again : tie.Need-loop-again Inv-loop μ-loop
 loop-again c =
-    let turn = c .before .before .before in
+    let turn = c .before .before in
     let sheet = now (turn .before .before .args .sheet) in
     let i = turn .loop .i in
     let more : firstCell sheet (i + 1) ≡ firstCell sheet i + cellsOf sheet i = ap (firstCell sheet) (add-one i) ∙ first-suc sheet i in
-    let cells : c .cells-for .result ≡ cellsOf sheet i =
-    c .cells-for .ensures .0 ∙ ap cellsFor (c .before .timeout .ensures) in
     (omega arith, omega arith, omega arith)
 
 returns : tie.Need-returns Inv-loop μ-loop
@@ -56,10 +39,9 @@ first-cell-spec =
     Inv-loop
     μ-loop
     loop-holds
-    timeout-requires
-    cells-for-requires
-    add-first
-    add-i
-    loop-less
+    (λ c κs. search needs)
+    (λ c. search needs)
+    (λ c. search needs)
+    (λ c. search needs)
     loop-again
     returns)

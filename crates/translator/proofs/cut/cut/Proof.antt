@@ -3,11 +3,8 @@ use borrow.Author.Needs.{needs}
 use Rattle.translator.proofs.cut.cut.Statement.{statement}
 use Rattle.translator.proofs.cut.cut.Tie as tie
 
-returns : tie.Need-returns
-returns c = search needs
-
 returns-2 : tie.Need-returns-2
 returns-2 c = rw (c .if1 .left)
 
 pub cut-spec : {M : Type 1} → statement M
-cut-spec = tie.close (tie.spec returns returns-2)
+cut-spec = tie.close (tie.spec (λ c. search needs) returns-2)

@@ -6,20 +6,23 @@ use native.Mathlib.Omega.{arith}
 use denote.Ref.{now}
 use borrow.Author.Needs.{needs}
 use Rattle.machine.specs.declared.node.Node.{Node}
+use Rattle.machine.proofs.StandLaws.{Leads}
 use Rattle.steps.specs.Steps.{stepAt}
 use Rattle.sheets.specs.Sheets.{nodeAt}
-use Rattle.translator.specs.Translation.{cellsOf, firstCell, cutAt}
+use Rattle.sheets.proofs.AcceptedSheet.{sheet-accepted}
+use Rattle.translator.specs.Translation.{cellsOf, firstCell, cellTotal, cutAt}
 use Rattle.translator.proofs.CutLaws.{last-timeout, last-to}
-use Rattle.translator.proofs.CutFits.{rest-left, CutFits, cut-fits}
+use Rattle.translator.proofs.CutLeads.{rest-left, cut-leads}
 use Rattle.translator.proofs.cut.last_cut.Statement.{statement}
 use Rattle.translator.proofs.cut.last_cut.Tie as tie
 
 -- where the cell leads
-fits : (c : tie.After-node-at) → CutFits (now (c .before .before .args .sheet)) (c .before .before .args .i) (c .before .before .args .j)
-fits c =
+leads : (c : tie.After-node-at)
+    → Leads (cellTotal (now (c .before .before .args .sheet))) (cutAt (now (c .before .before .args .sheet)) (c .before .before .args .i) (c .before .before .args .j))
+leads c =
     let s = c .before .before in
     let last : s .args .j + 1 ≡ cellsOf (now (s .args .sheet)) (s .args .i) = s .pre .1 .1 .1 in
-    cut-fits _ _ _ (s .pre .0) (s .pre .1 .0) (s .pre .1 .1 .0) (omega (arith, last))
+    cut-leads _ (sheet-accepted _ .0 (s .pre .0)) _ _ (s .pre .1 .1 .0) (omega (arith, last))
 
 -- the cells before it take no more than the timeout
 rest : (c : tie.After-node-at) → 4000 * c .before .before .args .j ≤ c .node-at .result .timeout
@@ -27,18 +30,6 @@ unfolding nodeAt
 rest c =
     let timeout = ap (λ (n : Node). n .timeout) (c .node-at .ensures) in
     omega (arith, timeout, rest-left (stepAt (now (c .before .before .args .sheet)) (c .before .before .args .i) .timeout) (c .before .before .args .j) (c .before .before .pre .1 .1 .1))
-
-node-at-requires : tie.Need-node-at-requires
-node-at-requires c κs = search needs
-
-mul-timeout : tie.Need-mul-timeout
-mul-timeout c = omega (arith, rest c)
-
-sub-timeout : tie.Need-sub-timeout
-sub-timeout c = omega (arith, rest (c .before))
-
-first-cell-requires : tie.Need-first-cell-requires
-first-cell-requires c κs = search needs
 
 -- the first cell that a jump of the step leads to
 led : (c : tie.After-node-at) (jump : Node → ℕ)
@@ -51,10 +42,7 @@ unfolding cutAt
 fault-of c = c .first-cell .ensures ∙ led (c .before .before) (λ n. n .faultto)
 
 cast-faultto : tie.Need-cast-faultto
-cast-faultto c = omega (arith, fits (c .before .before), fault-of c)
-
-first-cell-requires-2 : tie.Need-first-cell-requires-2
-first-cell-requires-2 c κs = search needs
+cast-faultto c = omega (arith, leads (c .before .before), fault-of c, c .before .before .before .before .pre .1 .0)
 
 sequence-of : (c : tie.After-first-cell2)
     → c .first-cell2 .result ≡ cutAt (now (c .before .before .before .before .before .args .sheet)) (c .before .before .before .before .before .args .i) (c .before .before .before .before .before .args .j) .sequenceto
@@ -62,10 +50,7 @@ unfolding cutAt
 sequence-of c = c .first-cell2 .ensures ∙ led (c .before .before .before) (λ n. n .sequenceto)
 
 cast-sequenceto : tie.Need-cast-sequenceto
-cast-sequenceto c = omega (arith, fits (c .before .before .before), sequence-of c)
-
-first-cell-requires-3 : tie.Need-first-cell-requires-3
-first-cell-requires-3 c κs = search needs
+cast-sequenceto c = omega (arith, leads (c .before .before .before), sequence-of c, c .before .before .before .before .before .pre .1 .0)
 
 timeout-of : (c : tie.After-first-cell3)
     → c .first-cell3 .result ≡ cutAt (now (c .before .before .before .before .before .before .args .sheet)) (c .before .before .before .before .before .before .args .i) (c .before .before .before .before .before .before .args .j) .timeoutto
@@ -74,7 +59,7 @@ timeout-of c =
     c .first-cell3 .ensures ∙ led node (λ n. n .timeoutto) ∙ sym (last-to _ _ _ (node .before .before .pre .1 .1 .1))
 
 cast-timeoutto : tie.Need-cast-timeoutto
-cast-timeoutto c = omega (arith, fits (c .before .before .before .before), timeout-of c)
+cast-timeoutto c = omega (arith, leads (c .before .before .before .before), timeout-of c, c .before .before .before .before .before .before .pre .1 .0)
 
 -- the rest of the timeout
 rest-of : (c : tie.After-node-at)
@@ -84,7 +69,7 @@ rest-of c =
     ap (λ (n : Node). n .timeout - 4000 * c .before .before .args .j) (c .node-at .ensures) ∙ sym (last-timeout _ _ _ (c .before .before .pre .1 .1 .1))
 
 returns : tie.Need-returns
-unfolding cutAt
+unfolding cutAt nodeAt
 returns c =
     let node = c .before .before .before .before in
     λ k. record {
@@ -96,20 +81,20 @@ returns c =
       sequenceto = sequence-of (c .before) k;
       timeout = rest-of node k;
       timeoutto = timeout-of c k;
-      step = node .before .before .args .i;
+      step = node .node-at .ensures k .step;
     }
 
 pub last-cut-spec : {M : Type 1} → statement M
 last-cut-spec =
     tie.close
     (tie.spec
-    node-at-requires
-    mul-timeout
-    sub-timeout
-    first-cell-requires
+    (λ c κs. search needs)
+    (λ c. omega (arith, rest c))
+    (λ c. omega (arith, rest (c .before)))
+    (λ c κs. search needs)
     cast-faultto
-    first-cell-requires-2
+    (λ c κs. search needs)
     cast-sequenceto
-    first-cell-requires-3
+    (λ c κs. search needs)
     cast-timeoutto
     returns)

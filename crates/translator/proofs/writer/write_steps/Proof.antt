@@ -1,15 +1,12 @@
 -- `translator::writer::write_steps` meets its contract. The invariant: the cells of the first i steps are written, and the bytes after them stay.
 -- Assumes nothing.
 use Prim.Native.Nat.{_-_, _≤_, _<_}
-use mathlib.Core.Path.{_≡_, ap, _∙_}
+use mathlib.Core.Path.{_≡_}
 use native.Mathlib.Omega.{arith}
 use denote.Ref.{now}
 use borrow.Author.Needs.{needs}
 use Rattle.steps.specs.Steps.{stepCount}
-use Rattle.steps.specs.declared.step.Step.{Step}
-use Rattle.sheets.proofs.SearchLaws.{few-steps}
-use Rattle.translator.specs.Translation.{cellsFor, cellsOf}
-use Rattle.translator.proofs.CutFits.{step-within}
+use Rattle.translator.proofs.CutLeads.{step-within}
 use Rattle.translator.proofs.WriteLaws.{StepsWritten, steps-none, steps-more, steps-all}
 use Rattle.translator.proofs.writer.write_steps.Statement.{statement}
 use Rattle.translator.proofs.writer.write_steps.Tie as tie
@@ -20,53 +17,25 @@ Inv-loop sheet table₀ steps first₀ i₀ table first i = StepsWritten sheet t
 abbrev μ-loop : tie.MeasureT-loop
 μ-loop sheet table₀ steps first₀ i₀ table first i = steps - i
 
-step-count-requires : tie.Need-step-count-requires Inv-loop μ-loop
-step-count-requires c κs = search needs
-
-loop-holds : tie.Need-loop-holds Inv-loop μ-loop
-loop-holds c = (steps-none _ _, c .step-count .ensures, omega arith)
-
-step-at-requires : tie.Need-step-at-requires Inv-loop μ-loop
-step-at-requires c κs = search needs
-
-cells-for-requires : tie.Need-cells-for-requires Inv-loop μ-loop
-cells-for-requires c κs = search needs
-
--- how many cells the step takes
-cells-of : (c : tie.After-cells-for Inv-loop μ-loop)
-    → c .cells-for .result ≡ cellsOf (now (c .before .before .before .before .before .before .before .args .sheet)) (c .before .before .before .loop .i)
-cells-of c = c .cells-for .ensures .0 ∙ ap (λ (s : Step). cellsFor (s .timeout)) (c .before .step-at .ensures)
-
 write-step-requires : tie.Need-write-step-requires Inv-loop μ-loop
 write-step-requires c κs =
-    let s = c .before .before .before .before .before .before .before .before in
-    let so = c .before .before .before .before .loop .inv in
-    (s .pre .0, (s .pre .1 .0, (omega (arith, s .pre .1 .1, so .0 .size), (omega arith, (so .0 .counted, cells-of (c .before))))))
+    let s = c .before .before .before .before .before .before .before in
+    let so = c .before .before .before .loop .inv in
+    (s .pre .0, (s .pre .1 .0, (omega (arith, s .pre .1 .1, so .0 .size), (omega arith, (so .0 .counted, c .before .cells-of .ensures .0)))))
 
 add-first : tie.Need-add-first Inv-loop μ-loop
 add-first c =
     let cells = c .before .before .before .before in
-    let turn = cells .before .before .before in
+    let turn = cells .before .before in
     let s = turn .before .before .before .before in
     let here : turn .loop .i < stepCount (now (s .args .sheet)) = omega arith in
-    omega (arith, turn .loop .inv .0 .counted, cells-of cells, step-within (now (s .args .sheet)) (turn .loop .i) here, s .pre)
-
-add-i : tie.Need-add-i Inv-loop μ-loop
-add-i c =
-    let turn = c .before .before .before .before .before .before .before in
-    omega (arith, turn .loop .inv, few-steps (now (turn .before .before .before .before .args .sheet)))
-
-loop-less : tie.Need-loop-less Inv-loop μ-loop
-loop-less c = omega arith
+    omega (arith, turn .loop .inv .0 .counted, cells .cells-of .ensures .0, step-within (now (s .args .sheet)) (turn .loop .i) here, s .pre)
 
 loop-again : tie.Need-loop-again Inv-loop μ-loop
 loop-again c =
     let cells = c .before .before .before .before in
-    let so = cells .before .before .before .loop .inv in
-    (steps-more _ _ _ _ _ _ (so .0) _ (cells-of cells) (c .before .before .write-step .ensures) (c .before .before .write-step .kept .1 .1 .1 .1 .0), so .1, omega arith)
-
-same-length : tie.Need-same-length Inv-loop μ-loop
-same-length c = c .before .loop .inv .0 .size
+    let so = cells .before .before .loop .inv in
+    (steps-more _ _ _ _ _ _ (so .0) _ (cells .cells-of .ensures .0) (c .before .before .write-step .ensures) (c .before .before .write-step .kept .1 .1 .1 .1 .0), so .1, omega arith)
 
 returns : tie.Need-returns Inv-loop μ-loop
 returns c =
@@ -80,14 +49,13 @@ write-steps-spec =
     (tie.spec
     Inv-loop
     μ-loop
-    step-count-requires
-    loop-holds
-    step-at-requires
-    cells-for-requires
+    (λ c κs. search needs)
+    (λ c. (steps-none _ _, c .step-count .ensures, omega arith))
+    (λ c κs. search needs)
     write-step-requires
     add-first
-    add-i
-    loop-less
+    (λ c. search needs)
+    (λ c. search needs)
     loop-again
-    same-length
+    (λ c. c .before .loop .inv .0 .size)
     returns)

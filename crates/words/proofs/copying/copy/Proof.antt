@@ -1,6 +1,6 @@
 -- `words::copying::copy` meets its contract: each turn stores one more of the bytes. Assumes nothing.
 use Prim.Native.Nat.{_-_, _≤_}
-use mathlib.Core.Path.{_≡_, refl, ap, sym, _∙_}
+use mathlib.Core.Path.{_≡_, refl, _∙_}
 use mathlib.Core.List.{_++_}
 use native.Mathlib.Omega.{arith}
 use denote.Ref.{now}
@@ -13,11 +13,11 @@ use Rattle.words.proofs.copying.copy.Statement.{statement}
 use Rattle.words.proofs.copying.copy.Tie as tie
 
 abbrev Inv-loop : tie.InvT-loop
-Inv-loop bytes part₀ i₀ part i =
-    (i ≤ length bytes) × (length part ≡ length part₀) × (part ≡ each (λ k. getD bytes k 0) 0 i ++ drop i part₀)
+Inv-loop bytes part₀ count i₀ part i =
+    (i ≤ count) × (length part ≡ length part₀) × (part ≡ each (λ k. getD bytes k 0) 0 i ++ drop i part₀)
 
 abbrev μ-loop : tie.MeasureT-loop
-μ-loop bytes part₀ i₀ part i = length bytes - i
+μ-loop bytes part₀ count i₀ part i = count - i
 
 returns : tie.Need-returns Inv-loop μ-loop
 unfolding copied
@@ -27,17 +27,8 @@ loop-holds : tie.Need-loop-holds Inv-loop μ-loop
 unfolding each
 loop-holds c = (omega arith, refl, refl)
 
-shared-slice-read-part : tie.Need-shared-slice-read-part Inv-loop μ-loop
-shared-slice-read-part c = omega arith
-
 slice-write-part : tie.Need-slice-write-part Inv-loop μ-loop
 slice-write-part c = omega (arith, c .before .before .loop .inv .1, c .before .before .before .if1 .left)
-
-add-i : tie.Need-add-i Inv-loop μ-loop
-add-i c = search needs
-
-loop-less : tie.Need-loop-less Inv-loop μ-loop
-loop-less c = omega arith
 
 loop-again : tie.Need-loop-again Inv-loop μ-loop
 loop-again c = (
@@ -45,9 +36,6 @@ loop-again c = (
   simp length-set (c .before .before .loop .inv .1),
   filled-more _ _ _ _ _ (c .before .before .loop .inv .2) refl (omega (arith, c .before .before .before .if1 .left)),
 )
-
-same-length : tie.Need-same-length Inv-loop μ-loop
-same-length c = c .before .loop .inv .1
 
 returns-2 : tie.Need-returns-2 Inv-loop μ-loop
 unfolding copied
@@ -67,10 +55,10 @@ copy-spec =
     μ-loop
     returns
     loop-holds
-    shared-slice-read-part
+    (λ c. search needs)
     slice-write-part
-    add-i
-    loop-less
+    (λ c. search needs)
+    (λ c. search needs)
     loop-again
-    same-length
+    (λ c. search needs)
     returns-2)

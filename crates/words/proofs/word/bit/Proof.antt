@@ -1,5 +1,5 @@
 -- `words::word::bit` meets its contract: past bit 15 a power of two has no bit of the sixteen. Assumes nothing.
-use Prim.Native.Nat.{ℕ, _*_, _%_, _^_}
+use Prim.Native.Nat.{ℕ, _%_, _^_}
 use mathlib.Core.Path.{_∙_, ap, sym}
 use native.Mathlib.Nat.{one-mul}
 use borrow.Author.Needs.{needs}
@@ -19,15 +19,9 @@ returns-2 c =
     rw (not-false (c .before .before .args .on) (c .before .if1 .left))
     (sym (shifted-past 1 (c .before .before .args .k) 16 (c .if2 .taken)) ∙ ap (λ (n : ℕ). n % 2 ^ 16) (one-mul _))
 
-cast-result : tie.Need-cast-result
-cast-result c = search needs
-
-shl-result : tie.Need-shl-result
-shl-result c = search needs
-
 returns-3 : tie.Need-returns-3
 unfolding bitWord
 returns-3 c = rw (not-false (c .before .before .args .on) (c .before .if1 .left)) (ap (λ (n : ℕ). n % 2 ^ 16) (one-mul _))
 
 pub bit-spec : {M : Type 1} → statement M
-bit-spec = tie.close (tie.spec returns returns-2 cast-result shl-result returns-3)
+bit-spec = tie.close (tie.spec returns returns-2 (λ c. search needs) (λ c. search needs) returns-3)

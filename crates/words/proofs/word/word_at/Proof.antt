@@ -1,9 +1,8 @@
 -- `words::word::word_at` meets its contract: a byte past the end counts as 0. Assumes nothing.
-use Prim.Native.Nat.{ℕ, _+_, _*_, _<_, _≤_}
-use mathlib.Core.Path.{_≡_, sym}
+use Prim.Native.Nat.{ℕ, _+_, _≤_}
+use mathlib.Core.Path.{_≡_}
 use mathlib.Core.List.{List}
 use native.Mathlib.Omega.{arith}
-use native.Mathlib.Nat.{le-trans}
 use lib.ListN.{length, getD, List·getD-eq-default}
 use borrow.Author.Needs.{needs}
 use denote.Ref.{now}
@@ -21,23 +20,14 @@ returns c =
     let i = c .before .args .at in
     omega (arith, past l i (c .if1 .taken), past l (i + 1) (omega arith))
 
-shared-slice-read-low : tie.Need-shared-slice-read-low
-shared-slice-read-low c = search needs
-
 cast-low : tie.Need-cast-low
 cast-low c = omega (arith, c .shared-slice-known .given (c .before .before .args .at))
-
-add-next : tie.Need-add-next
-add-next c = search needs
 
 returns-2 : tie.Need-returns-2
 unfolding wordAt
 returns-2 c =
     let a = c .before .before .before .args in
     omega (arith, past (now (a .bytes)) (a .at + 1) (c .if2 .taken))
-
-shared-slice-read-result : tie.Need-shared-slice-read-result
-shared-slice-read-result c = search needs
 
 cast-result : tie.Need-cast-result
 cast-result c = omega (arith, c .shared-slice-known2 .given (c .before .before .before .before .args .at + 1))
@@ -59,11 +49,11 @@ word-at-spec =
     tie.close
     (tie.spec
     returns
-    shared-slice-read-low
+    (λ c. search needs)
     cast-low
-    add-next
+    (λ c. search needs)
     returns-2
-    shared-slice-read-result
+    (λ c. search needs)
     cast-result
     mul-result
     add-result

@@ -5,60 +5,6 @@ use Rattle.image.specs.Codes.{inputCode}
 use Rattle.writing.proofs.codes.input_code.Statement.{statement}
 use Rattle.writing.proofs.codes.input_code.Tie as tie
 
-enum-told : tie.Need-enum-told
-enum-told c = search needs
-
-code-if-requires : tie.Need-code-if-requires
-code-if-requires c κs = search needs
-
-enum-told-2 : tie.Need-enum-told-2
-enum-told-2 c = search needs
-
-code-if-requires-2 : tie.Need-code-if-requires-2
-code-if-requires-2 c κs = search needs
-
-enum-told-3 : tie.Need-enum-told-3
-enum-told-3 c = search needs
-
-code-if-requires-3 : tie.Need-code-if-requires-3
-code-if-requires-3 c κs = search needs
-
-enum-told-4 : tie.Need-enum-told-4
-enum-told-4 c = search needs
-
-code-if-requires-4 : tie.Need-code-if-requires-4
-code-if-requires-4 c κs = search needs
-
-enum-told-5 : tie.Need-enum-told-5
-enum-told-5 c = search needs
-
-code-if-requires-5 : tie.Need-code-if-requires-5
-code-if-requires-5 c κs = search needs
-
-enum-told-6 : tie.Need-enum-told-6
-enum-told-6 c = search needs
-
-code-if-requires-6 : tie.Need-code-if-requires-6
-code-if-requires-6 c κs = search needs
-
-enum-told-7 : tie.Need-enum-told-7
-enum-told-7 c = search needs
-
-code-if-requires-7 : tie.Need-code-if-requires-7
-code-if-requires-7 c κs = search needs
-
-enum-told-8 : tie.Need-enum-told-8
-enum-told-8 c = search needs
-
-code-if-requires-8 : tie.Need-code-if-requires-8
-code-if-requires-8 c κs = search needs
-
-enum-told-9 : tie.Need-enum-told-9
-enum-told-9 c = search needs
-
-code-if-requires-9 : tie.Need-code-if-requires-9
-code-if-requires-9 c κs = search needs
-
 returns : tie.Need-returns
 returns c = c .code-if .ensures ∙ ap (inputCode _) (sym (c .before .enum-told .given .1))
 
@@ -90,24 +36,24 @@ pub input-code-spec : {M : Type 1} → statement M
 input-code-spec =
     tie.close
     (tie.spec
-    enum-told
-    code-if-requires
-    enum-told-2
-    code-if-requires-2
-    enum-told-3
-    code-if-requires-3
-    enum-told-4
-    code-if-requires-4
-    enum-told-5
-    code-if-requires-5
-    enum-told-6
-    code-if-requires-6
-    enum-told-7
-    code-if-requires-7
-    enum-told-8
-    code-if-requires-8
-    enum-told-9
-    code-if-requires-9
+    (λ c. search needs)
+    (λ c κs. search needs)
+    (λ c. search needs)
+    (λ c κs. search needs)
+    (λ c. search needs)
+    (λ c κs. search needs)
+    (λ c. search needs)
+    (λ c κs. search needs)
+    (λ c. search needs)
+    (λ c κs. search needs)
+    (λ c. search needs)
+    (λ c κs. search needs)
+    (λ c. search needs)
+    (λ c κs. search needs)
+    (λ c. search needs)
+    (λ c κs. search needs)
+    (λ c. search needs)
+    (λ c κs. search needs)
     returns
     returns-2
     returns-3

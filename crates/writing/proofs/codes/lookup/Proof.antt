@@ -10,31 +10,16 @@ use Rattle.writing.proofs.codes.lookup.Statement.{statement}
 use Rattle.writing.proofs.codes.lookup.Tie as tie
 
 abbrev Inv-loop : tie.InvT-loop
-Inv-loop table value i₀ i = (i ≤ length table) × (lookup table value ≡ lookupFrom i (drop i table) value)
+Inv-loop table value i₀ i-end i = (i ≤ length table) × (lookup table value ≡ lookupFrom i (drop i table) value)
 
 abbrev μ-loop : tie.MeasureT-loop
-μ-loop table value i₀ i = length table - i
+μ-loop table value i₀ i-end i = length table - i
 
 loop-holds : tie.Need-loop-holds Inv-loop μ-loop
 loop-holds c = (omega arith, refl)
 
-mul-if1 : tie.Need-mul-if1 Inv-loop μ-loop
-mul-if1 c = search needs
-
-shared-slice-read-if1 : tie.Need-shared-slice-read-if1 Inv-loop μ-loop
-shared-slice-read-if1 c = search needs
-
-cast-t8 : tie.Need-cast-t8 Inv-loop μ-loop
-cast-t8 c = omega arith
-
 returns : tie.Need-returns Inv-loop μ-loop
 returns c = sym (c .before .before .before .loop .inv .1 ∙ lookup-hit _ _ _ (c .before .before .loop-test .taken) (c .if1 .taken))
-
-add-i : tie.Need-add-i Inv-loop μ-loop
-add-i c = omega arith
-
-loop-less : tie.Need-loop-less Inv-loop μ-loop
-loop-less c = omega arith
 
 loop-again : tie.Need-loop-again Inv-loop μ-loop
 loop-again c = (omega arith, c .before .before .before .loop .inv .1 ∙ lookup-pass _ _ _ (c .before .before .loop-test .taken) (c .if1 .left))
@@ -49,11 +34,11 @@ lookup-spec =
     Inv-loop
     μ-loop
     loop-holds
-    mul-if1
-    shared-slice-read-if1
-    cast-t8
+    (λ c. search needs)
+    (λ c. search needs)
+    (λ c. search needs)
     returns
-    add-i
-    loop-less
+    (λ c. search needs)
+    (λ c. search needs)
     loop-again
     returns-2)

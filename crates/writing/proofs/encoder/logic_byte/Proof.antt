@@ -5,9 +5,6 @@ use Rattle.writing.specs.Writing.{hasLogic, logicByte}
 use Rattle.writing.proofs.encoder.logic_byte.Statement.{statement}
 use Rattle.writing.proofs.encoder.logic_byte.Tie as tie
 
-pin-logic-byte-requires : tie.Need-pin-logic-byte-requires
-pin-logic-byte-requires c κs = search needs
-
 returns : tie.Need-returns
 unfolding logicByte
 returns c = rw (le-leb _ _ (c .before .if1 .taken), c .pin-logic-byte .ensures)
@@ -21,4 +18,4 @@ unfolding logicByte hasLogic
 returns-3 c = rw (lt-leb _ _ (c .before .before .before .before .if1 .left), c .if2 .left)
 
 pub logic-byte-spec : {M : Type 1} → statement M
-logic-byte-spec = tie.close (tie.spec pin-logic-byte-requires returns returns-2 returns-3)
+logic-byte-spec = tie.close (tie.spec (λ c κs. search needs) returns returns-2 returns-3)

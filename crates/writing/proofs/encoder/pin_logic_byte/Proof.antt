@@ -5,26 +5,8 @@ use Rattle.writing.proofs.WritingLaws.{pin-logic-is, pulse-lacks, delay
 use Rattle.writing.proofs.encoder.pin_logic_byte.Statement.{statement}
 use Rattle.writing.proofs.encoder.pin_logic_byte.Tie as tie
 
-pulse-code-requires : tie.Need-pulse-code-requires
-pulse-code-requires c κs = search needs
-
-enum-known-pulse : tie.Need-enum-known-pulse
-enum-known-pulse c = search needs
-
-enum-told : tie.Need-enum-told
-enum-told c = search needs
-
 returns : tie.Need-returns
 returns c = sym (pulse-lacks _ (sym (c .before .before .pulse-code .ensures) ∙ c .enum-told .given .1))
-
-time-code-requires : tie.Need-time-code-requires
-time-code-requires c κs = search needs
-
-enum-known-delay : tie.Need-enum-known-delay
-enum-known-delay c = search needs
-
-enum-told-2 : tie.Need-enum-told-2
-enum-told-2 c = search needs
 
 returns-2 : tie.Need-returns-2
 returns-2 c =
@@ -32,21 +14,6 @@ returns-2 c =
     sym
     (delay-lacks _ _ (sym (pulse .before .before .pulse-code .ensures) ∙ pulse .pulse .given .1)
     (sym (c .before .before .time-code .ensures) ∙ c .enum-told2 .given .1))
-
-join-requires : tie.Need-join-requires
-join-requires c κs = search needs
-
-bit-requires : tie.Need-bit-requires
-bit-requires c κs = search needs
-
-bit-requires-2 : tie.Need-bit-requires-2
-bit-requires-2 c κs = search needs
-
-join-requires-2 : tie.Need-join-requires-2
-join-requires-2 c κs = search needs
-
-join-requires-3 : tie.Need-join-requires-3
-join-requires-3 c κs = search needs
 
 returns-3 : tie.Need-returns-3
 returns-3 c =
@@ -62,17 +29,17 @@ pub pin-logic-byte-spec : {M : Type 1} → statement M
 pin-logic-byte-spec =
     tie.close
     (tie.spec
-    pulse-code-requires
-    enum-known-pulse
-    enum-told
+    (λ c κs. search needs)
+    (λ c. search needs)
+    (λ c. search needs)
     returns
-    time-code-requires
-    enum-known-delay
-    enum-told-2
+    (λ c κs. search needs)
+    (λ c. search needs)
+    (λ c. search needs)
     returns-2
-    join-requires
-    bit-requires
-    bit-requires-2
-    join-requires-2
-    join-requires-3
+    (λ c κs. search needs)
+    (λ c κs. search needs)
+    (λ c κs. search needs)
+    (λ c κs. search needs)
+    (λ c κs. search needs)
     returns-3)

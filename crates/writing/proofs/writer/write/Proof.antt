@@ -6,16 +6,10 @@ use Rattle.writing.proofs.WritingLaws.{write-whole, write-not-whole, wr
 use Rattle.writing.proofs.writer.write.Statement.{statement}
 use Rattle.writing.proofs.writer.write.Tie as tie
 
-refuse-unless-requires : tie.Need-refuse-unless-requires
-refuse-unless-requires c κs = search needs
-
 returns : tie.Need-returns
 returns c =
     let is = write-not-whole _ _ (c .before .if1 .taken) in
-    (c .refuse-unless .ensures ∙ is, written-refused _ _ _ is (λ e. omega arith))
-
-settings-verdict-requires : tie.Need-settings-verdict-requires
-settings-verdict-requires c κs = search needs
+    (c .refused .ensures ∙ is, written-refused _ _ _ is (λ e. omega arith))
 
 returns-2 : tie.Need-returns-2
 returns-2 c =
@@ -28,9 +22,6 @@ write-groups-requires c κs =
     let tested = c .before .before .before in
     (tested .before .if1 .left, rw (tested .settings-verdict .ensures) at (c .before .if2 .left))
 
-same-length : tie.Need-same-length
-same-length c = search needs
-
 returns-3 : tie.Need-returns-3
 returns-3 c =
     let passed = c .before .before .before .before in
@@ -42,10 +33,10 @@ pub write-spec : {M : Type 1} → statement M
 write-spec =
     tie.close
     (tie.spec
-    refuse-unless-requires
+    (λ c κs. search needs)
     returns
-    settings-verdict-requires
+    (λ c κs. search needs)
     returns-2
     write-groups-requires
-    same-length
+    (λ c. search needs)
     returns-3)

@@ -7,15 +7,6 @@ use Rattle.records.proofs.ListLaws.{copied-whole}
 use Rattle.writing.proofs.writer.write_group.Statement.{statement}
 use Rattle.writing.proofs.writer.write_group.Tie as tie
 
-slice-aggregate-copy : tie.Need-slice-aggregate-copy
-slice-aggregate-copy c = search needs
-
-copy-requires : tie.Need-copy-requires
-copy-requires c κs = search needs
-
-same-length : tie.Need-same-length
-same-length c = search needs
-
 returns : tie.Need-returns
 returns c =
     let s = c .before .before .before .before .before .before in
@@ -23,4 +14,4 @@ returns c =
     c .before .before .copy .ensures ∙ copied-whole (s .args .t1) (now (s .args .part)) (s .pre ∙ sym eight)
 
 pub write-group-spec : {M : Type 1} → statement M
-write-group-spec = tie.close (tie.spec slice-aggregate-copy copy-requires same-length returns)
+write-group-spec = tie.close (tie.spec (λ c. search needs) (λ c κs. search needs) (λ c. search needs) returns)

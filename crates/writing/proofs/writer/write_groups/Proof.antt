@@ -3,6 +3,7 @@ use Prim.Native.Nat.{_+_, _-_, _*_, _≤_}
 use mathlib.Core.Path.{_≡_, refl, ap, _∙_}
 use mathlib.Core.List.{_++_}
 use native.Mathlib.Omega.{arith}
+use borrow.Author.Needs.{needs}
 use lib.ListN.{length, drop, length-take, length-drop}
 use Rattle.records.specs.Lists.{each}
 use Rattle.records.proofs.ListLaws.{lent-back, lent-length, filled-all}
@@ -23,41 +24,8 @@ loop-holds : tie.Need-loop-holds Inv-loop μ-loop
 unfolding each
 loop-holds c = (omega arith, ten-groups (c .before .before .args .settings) _ (c .before .before .good .0), c .before .before .pre .0, refl)
 
-mul-encode : tie.Need-mul-encode Inv-loop μ-loop
-mul-encode c = omega arith
-
-array-copy-out-encode : tie.Need-array-copy-out-encode Inv-loop μ-loop
-array-copy-out-encode c = omega arith
-
-encode-requires : tie.Need-encode-requires Inv-loop μ-loop
-encode-requires c κs = omega arith
-
-mul-write-group : tie.Need-mul-write-group Inv-loop μ-loop
-mul-write-group c = omega arith
-
-mul-write-group-2 : tie.Need-mul-write-group-2 Inv-loop μ-loop
-mul-write-group-2 c = omega arith
-
-add-write-group : tie.Need-add-write-group Inv-loop μ-loop
-add-write-group c = omega arith
-
-sub-write-group : tie.Need-sub-write-group Inv-loop μ-loop
-sub-write-group c = omega arith
-
-part-write-group-start : tie.Need-part-write-group-start Inv-loop μ-loop
-part-write-group-start c = omega arith
-
-part-write-group-end : tie.Need-part-write-group-end Inv-loop μ-loop
-part-write-group-end c = omega arith
-
 write-group-requires : tie.Need-write-group-requires Inv-loop μ-loop
 write-group-requires c κs = simp (length-take, length-drop) (omega arith)
-
-add-k : tie.Need-add-k Inv-loop μ-loop
-add-k c = omega arith
-
-loop-less : tie.Need-loop-less Inv-loop μ-loop
-loop-less c = omega arith
 
 loop-again : tie.Need-loop-again Inv-loop μ-loop
 loop-again c =
@@ -72,9 +40,6 @@ loop-again c =
     (c .before .before .write-group .ensures ∙ bytes) (omega arith) in
     (omega arith, l .inv .1, ap length is ∙ lent-length (byteAt (a .settings)) (a .buffer .now) (8 * (l .k + 1)) (omega arith) ∙ start .pre .0, is)
 
-same-length : tie.Need-same-length Inv-loop μ-loop
-same-length c = omega arith
-
 returns : tie.Need-returns Inv-loop μ-loop
 unfolding imageOf
 returns c = filled-all _ _ _ _ 80 (c .before .loop .inv .3) (omega arith) (c .before .before .before .before .pre .0)
@@ -86,18 +51,18 @@ write-groups-spec =
     Inv-loop
     μ-loop
     loop-holds
-    mul-encode
-    array-copy-out-encode
-    encode-requires
-    mul-write-group
-    mul-write-group-2
-    add-write-group
-    sub-write-group
-    part-write-group-start
-    part-write-group-end
+    (λ c. search needs)
+    (λ c. search needs)
+    (λ c κs. search needs)
+    (λ c. search needs)
+    (λ c. search needs)
+    (λ c. search needs)
+    (λ c. search needs)
+    (λ c. search needs)
+    (λ c. search needs)
     write-group-requires
-    add-k
-    loop-less
+    (λ c. search needs)
+    (λ c. search needs)
     loop-again
-    same-length
+    (λ c. search needs)
     returns)

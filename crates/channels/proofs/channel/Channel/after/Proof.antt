@@ -5,24 +5,6 @@ use Rattle.channels.specs.Channel.{channelAfter, logicAfter}
 use Rattle.channels.proofs.channel.Channel.after.Statement.{statement}
 use Rattle.channels.proofs.channel.Channel.after.Tie as tie
 
-over-after-requires : tie.Need-over-after-requires
-over-after-requires c κs = search needs
-
-under-after-requires : tie.Need-under-after-requires
-under-after-requires c κs = search needs
-
-raw-fault-requires : tie.Need-raw-fault-requires
-raw-fault-requires c κs = search needs
-
-filter-after-requires : tie.Need-filter-after-requires
-filter-after-requires c κs = search needs
-
-filter-after-requires-2 : tie.Need-filter-after-requires-2
-filter-after-requires-2 c κs = search needs
-
-left-after-requires : tie.Need-left-after-requires
-left-after-requires c κs = search needs
-
 returns : tie.Need-returns
 unfolding channelAfter logicAfter xor
 returns c =
@@ -36,10 +18,10 @@ pub after-spec : {M : Type 1} → statement M
 after-spec =
     tie.close
     (tie.spec
-    over-after-requires
-    under-after-requires
-    raw-fault-requires
-    filter-after-requires
-    filter-after-requires-2
-    left-after-requires
+    (λ c κs. search needs)
+    (λ c κs. search needs)
+    (λ c κs. search needs)
+    (λ c κs. search needs)
+    (λ c κs. search needs)
+    (λ c κs. search needs)
     returns)

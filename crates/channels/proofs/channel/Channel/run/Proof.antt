@@ -21,18 +21,6 @@ loop-holds : tie.Need-loop-holds Inv-loop μ-loop
 unfolding channelOver
 loop-holds c = (omega arith, (refl, refl))
 
-sample-requires : tie.Need-sample-requires Inv-loop μ-loop
-sample-requires c κs = search needs
-
-after-requires : tie.Need-after-requires Inv-loop μ-loop
-after-requires c κs = search needs
-
-add-i : tie.Need-add-i Inv-loop μ-loop
-add-i c = omega arith
-
-loop-less : tie.Need-loop-less Inv-loop μ-loop
-loop-less c = omega arith
-
 loop-again : tie.Need-loop-again Inv-loop μ-loop
 loop-again c =
     let l = c .before .before .before in
@@ -44,12 +32,6 @@ loop-again c =
         over-more (a .group) (now (a .frames)) (a .k) (a .self) (l .loop .i) _ _ _ (c .before .sample .ensures) (l .loop .inv .1 .1) (c .after .ensures),
       ),
     )
-
-fault-bit-requires : tie.Need-fault-bit-requires Inv-loop μ-loop
-fault-bit-requires c κs = search needs
-
-warning-bit-requires : tie.Need-warning-bit-requires Inv-loop μ-loop
-warning-bit-requires c κs = search needs
 
 returns : tie.Need-returns Inv-loop μ-loop
 unfolding ranOver
@@ -65,11 +47,11 @@ run-spec =
     Inv-loop
     μ-loop
     loop-holds
-    sample-requires
-    after-requires
-    add-i
-    loop-less
+    (λ c κs. search needs)
+    (λ c κs. search needs)
+    (λ c. search needs)
+    (λ c. search needs)
     loop-again
-    fault-bit-requires
-    warning-bit-requires
+    (λ c κs. search needs)
+    (λ c κs. search needs)
     returns)
