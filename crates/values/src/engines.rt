@@ -4,9 +4,14 @@ use crate::sheets_made::mended;
 use crate::sheets_made::waits;
 use machine::State;
 
+// The high byte of the last cell's outputs: out of range, and mended.
+const BAD: u8 = 4;
+
+const MENDED: u8 = 0;
+
 pub(crate) fn try_words() {
-    tick_table(b"table, word 1023:", 0, 756, state(0, 0), 1023);
-    tick_table(b"table, word 1024:", 0, 756, state(0, 0), 1024);
+    tick_table(b"table, word 1023:", MENDED, 756, state(0, 0), 1023);
+    tick_table(b"table, word 1024:", MENDED, 756, state(0, 0), 1024);
     tick_sheet(b"sheet, word 1023:", 6, 1008, state(0, 0), 1023);
     tick_sheet(b"sheet, word 1024:", 6, 1008, state(0, 0), 1024);
 }
@@ -17,18 +22,30 @@ fn state(at: u8, elapsed: u8) -> State {
 
 // Length, the cell's number, that cell, elapsed, word.
 pub(crate) fn try_table_order() {
-    tick_table(b"table tick, 755 bytes:", 4, 755, state(63, 1), 1024);
-    tick_table(b"table tick, then 756:", 4, 756, state(63, 1), 1024);
-    tick_table(b"table tick, then cell 62:", 4, 756, state(62, 1), 1024);
+    tick_table(b"table tick, 755 bytes:", BAD, 755, state(63, 1), 1024);
+    tick_table(b"table tick, then 756:", BAD, 756, state(63, 1), 1024);
+    tick_table(b"table tick, then cell 62:", BAD, 756, state(62, 1), 1024);
     tick_table(
         b"table tick, then its outputs mended:",
-        0,
+        MENDED,
         756,
         state(62, 1),
         1024,
     );
-    tick_table(b"table tick, then elapsed 0:", 0, 756, state(62, 0), 1024);
-    tick_table(b"table tick, then word 1023:", 0, 756, state(62, 0), 1023);
+    tick_table(
+        b"table tick, then elapsed 0:",
+        MENDED,
+        756,
+        state(62, 0),
+        1024,
+    );
+    tick_table(
+        b"table tick, then word 1023:",
+        MENDED,
+        756,
+        state(62, 0),
+        1023,
+    );
 }
 
 fn tick_table(name: &[u8], high: u8, length: usize, state: State, word: u16) {
