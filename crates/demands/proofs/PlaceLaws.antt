@@ -188,11 +188,12 @@ bytes-within state =
     also unless-within 255 (zerosStand state) unreachable 0 (omega arith)
     also none)
 
-on-bytes-within : (state : List ℕ) (answer : Ticked) → answer .verdict .place ≤ 255 → onBytes (bytesVerdict state) answer .verdict .place ≤ 255
-on-bytes-within state answer h =
+on-bytes-within : (state : List ℕ) (received : State) (answer : Ticked) → answer .verdict .place ≤ 255
+    → onBytes (bytesVerdict state) received answer .verdict .place ≤ 255
+on-bytes-within state received answer h =
     elim (ℕ-discrete (bytesVerdict state .number) 0) [
-      | yes passes ↦ rw (on-bytes-passed (bytesVerdict state) answer passes) h
-      | no refuses ↦ rw (on-bytes-refused (bytesVerdict state) answer refuses) (bytes-within state)
+      | yes passes ↦ rw (on-bytes-passed (bytesVerdict state) received answer passes) h
+      | no refuses ↦ rw (on-bytes-refused (bytesVerdict state) received answer refuses) (bytes-within state)
     ]
 
 pub start-within : (state : List ℕ) → Within 0 (startVerdict state)
@@ -205,11 +206,11 @@ number-fits state bytes = bytes 0
 
 pub ticked-within : (form : Form) (bytes state : List ℕ) (word : ℕ) → Bytes state → tickedOn form bytes state word .verdict .place ≤ 255
 unfolding tickedOn
-ticked-within form bytes state word fits = on-bytes-within state _ (tick-place form bytes (stateFrom state) word (number-fits state fits))
+ticked-within form bytes state word fits = on-bytes-within state _ _ (tick-place form bytes (stateFrom state) word (number-fits state fits))
 
 pub shown-within : (form : Form) (bytes state : List ℕ) → Bytes state → shownOn form bytes state .verdict .place ≤ 255
 unfolding shownOn
-shown-within form bytes state fits = on-bytes-within state _ (show-place form bytes (stateFrom state) (number-fits state fits))
+shown-within form bytes state fits = on-bytes-within state _ _ (show-place form bytes (stateFrom state) (number-fits state fits))
 
 pub normal-within : (image buffer : List ℕ) → Within 79 (normalVerdict image buffer)
 unfolding normalVerdict imageThen

@@ -95,27 +95,27 @@ pub state-tick-refused : (form : Form) (bytes state : List ℕ) (word : ℕ) →
 unfolding stateAfter
 state-tick-refused form bytes state word h = rw (ne-eqb (tickedOn form bytes state word .verdict .number) 0 h)
 
--- Their tests, and those of state_calls::show_table and state_calls::show_sheet: first the state's bytes, with no outputs and step 0,
+-- Their tests, and those of state_calls::show_table and state_calls::show_sheet: first the state's bytes, with the state that they hold, no outputs and step 0,
 pub tick-bytes-refused : (form : Form) (bytes state : List ℕ) (word : ℕ) → ¬ (bytesVerdict state .number ≡ 0)
-    → tickedOn form bytes state word ≡ refusedWith (bytesVerdict state) (form-ticked form bytes (stateFrom state) word .state)
+    → tickedOn form bytes state word ≡ refusedWith (bytesVerdict state) (stateFrom state)
 unfolding tickedOn
-tick-bytes-refused form bytes state word = on-bytes.on-bytes-refused (bytesVerdict state) _
+tick-bytes-refused form bytes state word = on-bytes.on-bytes-refused (bytesVerdict state) (stateFrom state) _
 
 pub show-bytes-refused : (form : Form) (bytes state : List ℕ) → ¬ (bytesVerdict state .number ≡ 0)
-    → shownOn form bytes state ≡ refusedWith (bytesVerdict state) (shownAt form bytes (stateFrom state) .state)
+    → shownOn form bytes state ≡ refusedWith (bytesVerdict state) (stateFrom state)
 unfolding shownOn
-show-bytes-refused form bytes state = on-bytes.on-bytes-refused (bytesVerdict state) _
+show-bytes-refused form bytes state = on-bytes.on-bytes-refused (bytesVerdict state) (stateFrom state) _
 
 -- then the library's own: on bytes that pass, the answer is the library's on the state that they hold.
 pub tick-bytes-taken : (form : Form) (bytes state : List ℕ) (word : ℕ) → bytesVerdict state .number ≡ 0
     → tickedOn form bytes state word ≡ form-ticked form bytes (stateFrom state) word
 unfolding tickedOn
-tick-bytes-taken form bytes state word = on-bytes.on-bytes-passed (bytesVerdict state) _
+tick-bytes-taken form bytes state word = on-bytes.on-bytes-passed (bytesVerdict state) (stateFrom state) _
 
 pub show-bytes-taken : (form : Form) (bytes state : List ℕ) → bytesVerdict state .number ≡ 0
     → shownOn form bytes state ≡ shownAt form bytes (stateFrom state)
 unfolding shownOn
-show-bytes-taken form bytes state = on-bytes.on-bytes-passed (bytesVerdict state) _
+show-bytes-taken form bytes state = on-bytes.on-bytes-passed (bytesVerdict state) (stateFrom state) _
 
 -- recordings::recorded
 pub recorded-refused : (image recording : List ℕ) → ¬ (recorded image recording .verdict .number ≡ 0) → Wordless (recorded image recording)

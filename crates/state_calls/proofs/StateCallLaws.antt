@@ -31,17 +31,17 @@ start-written bytes = chosen (eqb (length bytes) 8)
 
 -- ---- a tick
 
-module _ (bytes : Verdict) (answer : Ticked) where
-  pub on-bytes-passed : bytes .number ≡ 0 → onBytes bytes answer ≡ answer
+module _ (bytes : Verdict) (received : State) (answer : Ticked) where
+  pub on-bytes-passed : bytes .number ≡ 0 → onBytes bytes received answer ≡ answer
   unfolding onBytes
   on-bytes-passed e = rw (eq-eqb (bytes .number) 0 e)
 
-  pub on-bytes-refused : ¬ (bytes .number ≡ 0) → onBytes bytes answer ≡ refusedWith bytes (answer .state)
+  pub on-bytes-refused : ¬ (bytes .number ≡ 0) → onBytes bytes received answer ≡ refusedWith bytes received
   unfolding onBytes
   on-bytes-refused r = rw (ne-eqb (bytes .number) 0 r)
 
   -- where the call accepts, so did the test of the bytes
-  pub bytes-passed : onBytes bytes answer .verdict .number ≡ 0 → bytes .number ≡ 0
+  pub bytes-passed : onBytes bytes received answer .verdict .number ≡ 0 → bytes .number ≡ 0
   bytes-passed e =
       elim (ℕ-discrete (bytes .number) 0) [
         | yes p ↦ p
@@ -65,15 +65,21 @@ after-written state answer passed =
 
 -- ---- a call from its parts: the state that the bytes hold, the library's answer, the test of the bytes
 module _ (form : Form) (bytes state : List ℕ) {from : State} {told : Ticked} {verdict : Verdict} {answer : Ticked}
-    (f : from ≡ stateFrom state) (v : verdict ≡ bytesVerdict state) (a : answer ≡ onBytes verdict told) where
+    (f : from ≡ stateFrom state) (v : verdict ≡ bytesVerdict state) (a : answer ≡ onBytes verdict from told) where
   pub shown-by : told ≡ shownAt form bytes from → answer ≡ shownOn form bytes state
   unfolding shownOn
-  shown-by t = a ∙ ap₂ onBytes v (t ∙ ap (shownAt form bytes) f)
+  shown-by t =
+      a
+      ∙ ap₂ (λ (x : Verdict) (s : State). onBytes x s told) v f
+      ∙ ap (onBytes (bytesVerdict state) (stateFrom state)) (t ∙ ap (shownAt form bytes) f)
 
   module _ (word : ℕ) (t : told ≡ ticked form bytes from word) where
     is : answer ≡ tickedOn form bytes state word
     unfolding tickedOn
-    is = a ∙ ap₂ onBytes v (t ∙ ap (λ (s : State). ticked form bytes s word) f)
+    is =
+        a
+        ∙ ap₂ (λ (x : Verdict) (s : State). onBytes x s told) v f
+        ∙ ap (onBytes (bytesVerdict state) (stateFrom state)) (t ∙ ap (λ (s : State). ticked form bytes s word) f)
 
     -- the answer, and the bytes afterwards
     pub ticked-by : {r : Ticked} {after : List ℕ} → r ≡ answer
@@ -84,5 +90,5 @@ module _ (form : Form) (bytes state : List ℕ) {from : State} {told : Ticked} {
       r ∙ is,
       w
           ∙ ap (λ (x : Ticked). cond (eqb (x .verdict .number) 0) (copied (stateBytes (x .state)) state) state) is
-          ∙ after-written state _ (bytes-passed (bytesVerdict state) (ticked form bytes (stateFrom state) word)),
+          ∙ after-written state _ (bytes-passed (bytesVerdict state) (stateFrom state) (ticked form bytes (stateFrom state) word)),
     )

@@ -8,6 +8,7 @@ use Rattle.records.specs.Numbers.{wrong-length}
 use Rattle.records.specs.Verdicts.{refusedUnless}
 use Rattle.records.specs.declared.verdict.Verdict.{Verdict}
 use Rattle.machine.specs.Machine.{startState}
+use Rattle.machine.specs.declared.state.State.{State}
 use Rattle.states.specs.States.{stateFrom, stateBytes, bytesVerdict}
 use Rattle.engine.specs.Engine.{Form, refusedWith, ticked, shownAt}
 use Rattle.engine.specs.declared.answer.Ticked.{Ticked}
@@ -19,15 +20,15 @@ startVerdict bytes = refusedUnless (eqb (length bytes) 8) wrong-length 0
 unfoldable pub startWritten : List ℕ → List ℕ
 startWritten bytes = cond (eqb (startVerdict bytes .number) 0) (stateBytes startState) bytes
 
--- the tests of the bytes stand "before the call's own tests"
-unfoldable pub onBytes : Verdict → Ticked → Ticked
-onBytes bytes answer = cond (eqb (bytes .number) 0) answer (refusedWith bytes (answer .state))
+-- the tests of the bytes stand "before the call's own tests"; a refusal "gives back the state it received"
+unfoldable pub onBytes : Verdict → State → Ticked → Ticked
+onBytes bytes received answer = cond (eqb (bytes .number) 0) answer (refusedWith bytes received)
 
 unfoldable pub tickedOn : Form → List ℕ → List ℕ → ℕ → Ticked
-tickedOn form bytes state word = onBytes (bytesVerdict state) (ticked form bytes (stateFrom state) word)
+tickedOn form bytes state word = onBytes (bytesVerdict state) (stateFrom state) (ticked form bytes (stateFrom state) word)
 
 unfoldable pub shownOn : Form → List ℕ → List ℕ → Ticked
-shownOn form bytes state = onBytes (bytesVerdict state) (shownAt form bytes (stateFrom state))
+shownOn form bytes state = onBytes (bytesVerdict state) (stateFrom state) (shownAt form bytes (stateFrom state))
 
 -- the next state's bytes; "a refusal leaves them"
 unfoldable pub stateAfter : Ticked → List ℕ → List ℕ

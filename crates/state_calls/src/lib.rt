@@ -33,29 +33,33 @@ pub fn tick_table(table: &[u8], state: &mut [u8], word: u16) -> Ticked
     ensures { λ r. ⌜ r ≡ tickedOn Table (now (table .entry)) (now (state .entry)) word ⌝ }
     ensures { λ _. ⌜ now (state .exit) ≡ stateAfter (tickedOn Table (now (table .entry)) (now (state .entry)) word) (now (state .entry)) ⌝ }
 {
-    let ticked = engine::tick_table(table, state_from(state), word);
-    write_after(answer(bytes_verdict(state), ticked), state)
+    let received = state_from(state);
+    let ticked = engine::tick_table(table, received, word);
+    write_after(answer(bytes_verdict(state), received, ticked), state)
 }
 
 pub fn tick_sheet(sheet: &[u8], state: &mut [u8], word: u16) -> Ticked
     ensures { λ r. ⌜ r ≡ tickedOn Sheet (now (sheet .entry)) (now (state .entry)) word ⌝ }
     ensures { λ _. ⌜ now (state .exit) ≡ stateAfter (tickedOn Sheet (now (sheet .entry)) (now (state .entry)) word) (now (state .entry)) ⌝ }
 {
-    let ticked = engine::tick_sheet(sheet, state_from(state), word);
-    write_after(answer(bytes_verdict(state), ticked), state)
+    let received = state_from(state);
+    let ticked = engine::tick_sheet(sheet, received, word);
+    write_after(answer(bytes_verdict(state), received, ticked), state)
 }
 
 // What shows at the state in the eight bytes.
 pub fn show_table(table: &[u8], state: &[u8]) -> Ticked
     ensures { λ r. ⌜ r ≡ shownOn Table (now (table .entry)) (now (state .entry)) ⌝ }
 {
-    let shown = engine::show_table(table, state_from(state));
-    answer(bytes_verdict(state), shown)
+    let received = state_from(state);
+    let shown = engine::show_table(table, received);
+    answer(bytes_verdict(state), received, shown)
 }
 
 pub fn show_sheet(sheet: &[u8], state: &[u8]) -> Ticked
     ensures { λ r. ⌜ r ≡ shownOn Sheet (now (sheet .entry)) (now (state .entry)) ⌝ }
 {
-    let shown = engine::show_sheet(sheet, state_from(state));
-    answer(bytes_verdict(state), shown)
+    let received = state_from(state);
+    let shown = engine::show_sheet(sheet, received);
+    answer(bytes_verdict(state), received, shown)
 }

@@ -1,5 +1,6 @@
 // The tests of the state's bytes stand before a call's own, and its state goes back into them.
 use engine::Ticked;
+use machine::State;
 use records::Verdict;
 use states::state_bytes;
 use words::copy;
@@ -11,16 +12,15 @@ ghost use Rattle.states.specs.States.{stateBytes};
 ghost use Rattle.state_calls.specs.StateCalls.{onBytes};
 
 // The refusal of the state's bytes, or the call's own answer.
-pub(crate) fn answer(bytes: Verdict, told: Ticked) -> Ticked
-    ensures { λ r. ⌜ r ≡ onBytes bytes told ⌝ }
+pub(crate) fn answer(bytes: Verdict, received: State, told: Ticked) -> Ticked
+    ensures { λ r. ⌜ r ≡ onBytes bytes received told ⌝ }
 {
     if bytes.number == 0 {
         return told;
     }
-    let state = told.state;
     Ticked {
         verdict: bytes,
-        state,
+        state: received,
         outputs: 0,
         step: 0,
     }
