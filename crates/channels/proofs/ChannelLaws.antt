@@ -3,9 +3,9 @@ use Prim.Native.Nat.{ℕ, _-_}
 use mathlib.Core.Path.{_≡_, ap}
 use mathlib.Core.Bool.{Bool, true, false, cond}
 use lib.Dec.{ltb}
-use Rattle.image.specs.declared.settings.Logic.{Logic}
+use Rattle.image.specs.declared.Logic.{Logic}
 use Rattle.channels.specs.Channel.{pulseNow, leftAfter, logicFault}
-use Rattle.channels.specs.declared.channel.Filter.{Filter}
+use Rattle.channels.specs.declared.Filter.{Filter}
 
 -- ---- on edge, and on level
 module _ (logic : Logic) (before after : Filter) (left : ℕ) where

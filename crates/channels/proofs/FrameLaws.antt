@@ -6,12 +6,12 @@ use native.Mathlib.Numerals.{add-one}
 use native.Mathlib.Omega.{arith}
 use lib.ListN.{length, getD, take, drop, length-take, length-drop, List·getD-eq-default}
 use lib.Seq.{take-all, getD-take}
-use Rattle.image.specs.declared.settings.Group.{Group}
+use Rattle.image.specs.declared.Group.{Group}
 use Rattle.channels.specs.Channel.{channelAfter}
 use Rattle.channels.specs.Frame.{frameAt, sampleAt}
 use Rattle.channels.specs.Run.{channelOver}
-use Rattle.channels.specs.declared.channel.Channel.{Channel}
-use Rattle.channels.specs.declared.channel.Sample.{Sample}
+use Rattle.channels.specs.declared.Channel.{Channel}
+use Rattle.channels.specs.declared.Sample.{Sample}
 
 -- ---- the bytes of frame i
 module _ (frames : List ℕ) (i at : ℕ) where

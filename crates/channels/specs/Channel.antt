@@ -2,16 +2,16 @@
 use Prim.Native.Nat.{ℕ, _+_, _-_, _/_, min}
 use mathlib.Core.Bool.{Bool, false, cond, not, _&&_, _||_, Bool·beq, xor}
 use lib.Dec.{ltb, leb}
-use Rattle.image.specs.declared.settings.FaultType.{FaultType}
-use Rattle.image.specs.declared.settings.FaultType.the-variants.{Over, UnderOrOver, Under, Off}
-use Rattle.image.specs.declared.settings.Input.{Input}
-use Rattle.image.specs.declared.settings.Input.the-variants.{VpMid, VpLow, VpUltralow, VhLow, VhHigh, AnalogFault, LogicFault, LogicFaultAnalogWarning, NoFunction}
-use Rattle.image.specs.declared.settings.Threshold.{Threshold}
-use Rattle.image.specs.declared.settings.Logic.{Logic}
-use Rattle.image.specs.declared.settings.Group.{Group}
-use Rattle.channels.specs.declared.channel.Channel.{Channel}
-use Rattle.channels.specs.declared.channel.Filter.{Filter}
-use Rattle.channels.specs.declared.channel.Sample.{Sample}
+use Rattle.image.specs.declared.FaultType.{FaultType}
+use Rattle.image.specs.declared.FaultType.the-variants.{Over, UnderOrOver, Under, Off}
+use Rattle.image.specs.declared.Input.{Input}
+use Rattle.image.specs.declared.Input.the-variants.{VpMid, VpLow, VpUltralow, VhLow, VhHigh, AnalogFault, LogicFault, LogicFaultAnalogWarning, NoFunction}
+use Rattle.image.specs.declared.Threshold.{Threshold}
+use Rattle.image.specs.declared.Logic.{Logic}
+use Rattle.image.specs.declared.Group.{Group}
+use Rattle.channels.specs.declared.Channel.{Channel}
+use Rattle.channels.specs.declared.Filter.{Filter}
+use Rattle.channels.specs.declared.Sample.{Sample}
 
 -- ---- comparing
 

@@ -6,9 +6,9 @@ use lib.Dec.{eqb}
 use lib.ListN.{getD, take, drop}
 use Rattle.records.specs.Bits.{bits}
 use Rattle.image.specs.Groups.{isVX}
-use Rattle.image.specs.declared.settings.Input.{Input}
-use Rattle.image.specs.declared.settings.Input.the-variants.{VpMid, VpLow, VpUltralow, VhLow, VhHigh, AnalogFault, LogicFault, LogicFaultAnalogWarning, NoFunction}
-use Rattle.channels.specs.declared.channel.Sample.{Sample}
+use Rattle.image.specs.declared.Input.{Input}
+use Rattle.image.specs.declared.Input.the-variants.{VpMid, VpLow, VpUltralow, VhLow, VhHigh, AnalogFault, LogicFault, LogicFaultAnalogWarning, NoFunction}
+use Rattle.channels.specs.declared.Sample.{Sample}
 
 -- frame i of a run of frames of 11 bytes
 unfoldable pub frameAt : List ℕ → ℕ → List ℕ

@@ -1,11 +1,11 @@
 -- One channel over a run of frames, by itself. Assumes nothing.
 use Prim.Native.Nat.{ℕ, zero, suc, _-_}
 use mathlib.Core.List.{List}
-use Rattle.image.specs.declared.settings.Group.{Group}
+use Rattle.image.specs.declared.Group.{Group}
 use Rattle.channels.specs.Channel.{channelAfter, faultBit, warningBit}
 use Rattle.channels.specs.Frame.{frameAt, sampleAt}
-use Rattle.channels.specs.declared.channel.Channel.{Channel}
-use Rattle.channels.specs.declared.channel.Ran.{Ran}
+use Rattle.channels.specs.declared.Channel.{Channel}
+use Rattle.channels.specs.declared.Ran.{Ran}
 
 -- channel k after the first n frames
 unfoldable pub channelOver : Group → List ℕ → ℕ → Channel → ℕ → Channel

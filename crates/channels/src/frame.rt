@@ -1,6 +1,6 @@
 // What a channel's pins hold in a frame: ten samples by channel, then the logic levels. A byte past
 // the end of the frames counts as 0.
-use crate::channel::Sample;
+use crate::Sample;
 use bit_fields::field;
 use image::Input;
 use words::byte_at;

@@ -6,15 +6,15 @@ use mathlib.Core.List.{List}
 use native.Mathlib.Omega.{arith}
 use lib.ListN.{length}
 use Rattle.records.specs.Verdicts.{accepted}
-use Rattle.records.specs.declared.verdict.Verdict.{Verdict}
+use Rattle.records.specs.declared.Verdict.{Verdict}
 use Rattle.records.proofs.Every.{Bytes}
-use Rattle.machine.specs.declared.state.State.{State}
+use Rattle.machine.specs.declared.State.{State}
 use Rattle.states.specs.States.{stateFrom, stateBytes, bytesVerdict}
 use Rattle.states.proofs.StateLaws as states
 use Rattle.engine.specs.Engine.{Form}
-use Rattle.engine.specs.declared.answer.Ticked.{Ticked}
+use Rattle.engine.specs.declared.Ticked.{Ticked}
 use Rattle.translator.specs.Translation.{translation}
-use Rattle.detectors.specs.declared.ticks.Detected.{Detected}
+use Rattle.detectors.specs.declared.Detected.{Detected}
 use Rattle.state_calls.specs.StateCalls.{startVerdict, tickedOn, shownOn}
 use Rattle.recordings.specs.Recordings.{recorded}
 use Rattle.packing.specs.Packed.{packedParts, packedTick, packedWords}

@@ -8,34 +8,34 @@ use Rattle.records.specs.Lists.{copied}
 use Rattle.records.specs.Bits.{bits, joined}
 use Rattle.records.specs.Words.{wordAt, bitWord}
 use Rattle.records.specs.Verdicts.{accepted, refused, refusedUnless, orElse}
-use Rattle.records.specs.declared.verdict.Verdict.{Verdict}
+use Rattle.records.specs.declared.Verdict.{Verdict}
 use Rattle.text.specs.Text.{emptyLine, appended, written as lineText, decimalText, hexText}
 use Rattle.text.specs.declared.Line.{Line}
 use Rattle.console.specs.Refusal.{refusalLine}
 use Rattle.image.specs.Reading.{reading}
-use Rattle.image.specs.declared.settings.Group.{Group}
-use Rattle.image.specs.declared.settings.Settings.{Settings}
+use Rattle.image.specs.declared.Group.{Group}
+use Rattle.image.specs.declared.Settings.{Settings}
 use Rattle.writing.specs.Writing.{settingsVerdict, writeVerdict, written}
 use Rattle.blank_image.specs.Blank.{blankImage}
 use Rattle.channels.specs.Run.{ranOver}
-use Rattle.channels.specs.declared.channel.Channel.{Channel}
+use Rattle.channels.specs.declared.Channel.{Channel}
 use Rattle.detectors.specs.Bank.{startBank}
 use Rattle.detectors.specs.Tick.{ticked, engineTicked}
-use Rattle.detectors.specs.declared.bank.Bank.{Bank}
-use Rattle.detectors.specs.declared.ticks.Detected.{Detected}
+use Rattle.detectors.specs.declared.Bank.{Bank}
+use Rattle.detectors.specs.declared.Detected.{Detected}
 use Rattle.pins.specs.Pins.{driven}
 use Rattle.machine.specs.Fields.{elapsedInRange}
 use Rattle.machine.specs.Machine.{startState, exitNumber, tickAt}
-use Rattle.machine.specs.declared.exits.Exit.{Exit}
-use Rattle.machine.specs.declared.node.Node.{Node}
-use Rattle.machine.specs.declared.state.State.{State}
+use Rattle.machine.specs.declared.Exit.{Exit}
+use Rattle.machine.specs.declared.Node.{Node}
+use Rattle.machine.specs.declared.State.{State}
 use Rattle.tables.specs.Tables.{cellAt, partVerdict, cellWritten, cellStanding, tableVerdict}
 use Rattle.steps.specs.Steps.{stepAt, stepCount, stepFault}
-use Rattle.steps.specs.declared.step.Step.{Step}
+use Rattle.steps.specs.declared.Step.{Step}
 use Rattle.sheets.specs.Sheets.{nodeAt, sheetVerdict}
 use Rattle.states.specs.States.{stateFrom, stateBytes, bytesVerdict}
 use Rattle.engine.specs.Engine.{Form, ticked as form-ticked, shownAt}
-use Rattle.engine.specs.declared.answer.Ticked.{Ticked}
+use Rattle.engine.specs.declared.Ticked.{Ticked}
 use Rattle.translator.specs.Translation.{translation, translated}
 use Rattle.packing.specs.Packed.{packedParts, packedTranslation, packedVerdict, packedTick, packedWords}
 use Rattle.state_calls.specs.StateCalls.{startVerdict, startWritten, tickedOn, shownOn, stateAfter}

@@ -8,18 +8,18 @@ use lib.ListN.{length, getD, length-map}
 use Rattle.records.specs.Verdicts.{accepted}
 use Rattle.records.proofs.Every.{Every, none, _also_, Bytes}
 use Rattle.image.specs.Reading.{reading}
-use Rattle.image.specs.declared.settings.Settings.{Settings}
+use Rattle.image.specs.declared.Settings.{Settings}
 use Rattle.writing.specs.Writing.{settingsVerdict}
 use Rattle.detectors.specs.Bank.{startBank, bankVerdict}
 use Rattle.channels.specs.Frame.{frameAt}
 use Rattle.detectors.specs.Tick.{engineTicked}
-use Rattle.detectors.specs.declared.bank.Bank.{Bank}
-use Rattle.detectors.specs.declared.ticks.Detected.{Detected}
+use Rattle.detectors.specs.declared.Bank.{Bank}
+use Rattle.detectors.specs.declared.Detected.{Detected}
 use Rattle.pins.specs.Pins.{driven}
 use Rattle.pins.specs.declared.Driven.{Driven}
 use Rattle.engine.specs.Engine.{Sheet, Table}
 use Rattle.engine.specs.Runs.{sheetRun, tableRun}
-use Rattle.engine.specs.declared.answer.Ticked.{Ticked}
+use Rattle.engine.specs.declared.Ticked.{Ticked}
 use Rattle.translator.specs.Translation.{translation}
 use Rattle.detector_laws.proofs.Refusals.{Acceptable}
 use Rattle.detector_laws.proofs.Calls.{words-fit}

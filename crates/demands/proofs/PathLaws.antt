@@ -6,14 +6,14 @@ use Rattle.records.proofs.Every.{Every, none, _also_, every-map, Bytes}
 use Rattle.records.proofs.TestLaws.{lt-test, unless-passes, all-zero}
 use Rattle.records.proofs.VerdictLaws.{numberOf}
 use Rattle.image.specs.Reading.{reading}
-use Rattle.image.specs.declared.reader.Reading.{Reading}
-use Rattle.image.specs.declared.settings.Settings.{Settings}
+use Rattle.image.specs.declared.Reading.{Reading}
+use Rattle.image.specs.declared.Settings.{Settings}
 use Rattle.writing.specs.Writing.{settingsVerdict}
 use Rattle.pins.specs.Pins.{pinsVerdict, driven}
 use Rattle.pins.specs.declared.Driven.{Driven}
 use Rattle.engine.specs.Engine.{Sheet, Table}
 use Rattle.engine.specs.Runs.{sheetRun, tableRun}
-use Rattle.engine.specs.declared.answer.Ticked.{Ticked}
+use Rattle.engine.specs.declared.Ticked.{Ticked}
 use Rattle.translator.specs.Translation.{translation}
 use Rattle.image_laws.proofs.Refusals.{reading-accepted}
 use Rattle.image_laws.proofs.RoundTrip.{settings-of-accepted}

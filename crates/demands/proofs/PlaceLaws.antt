@@ -13,28 +13,28 @@ use Rattle.records.specs.Lists.{each}
 use Rattle.records.specs.Numbers.{wrong-length, reserved, unprinted, out-of-range, repeated-tag, unknown-tag, too-many-cells, unreachable, bad-word, no-room}
 use Rattle.records.specs.Tags.{repeats}
 use Rattle.records.specs.Verdicts.{refusedUnless, orElse, firstRefusal}
-use Rattle.records.specs.declared.verdict.Verdict.{Verdict}
+use Rattle.records.specs.declared.Verdict.{Verdict}
 use Rattle.records.proofs.Every.{Every, none, _also_, Bytes}
 use Rattle.records.proofs.VerdictLaws.{orElse-pass, orElse-hit, first-append}
 use Rattle.image.specs.Codes.{codeNumber}
 use Rattle.image.specs.Reading.{usable, printed, byteVerdict, imageVerdict, settingsOf, groupAt}
-use Rattle.image.specs.declared.settings.Settings.{Settings}
+use Rattle.image.specs.declared.Settings.{Settings}
 use Rattle.writing.specs.Writing.{settingByte, settingsVerdict}
 use Rattle.detectors.specs.Bank.{channelAt, inRange, bankVerdict}
 use Rattle.detectors.specs.Tick.{levelsInRange, levelsVerdict, framesVerdict, engineTicked}
-use Rattle.detectors.specs.declared.bank.Bank.{Bank}
-use Rattle.detectors.specs.declared.ticks.Detected.{Detected}
+use Rattle.detectors.specs.declared.Bank.{Bank}
+use Rattle.detectors.specs.declared.Detected.{Detected}
 use Rattle.detector_laws.proofs.Refusals.{refused-answer, accepted-answer}
 use Rattle.machine.specs.Fields.{wordInRange, elapsedInRange}
 use Rattle.machine.specs.Machine.{tickOn}
-use Rattle.machine.specs.declared.node.Node.{Node}
-use Rattle.machine.specs.declared.state.State.{State}
+use Rattle.machine.specs.declared.Node.{Node}
+use Rattle.machine.specs.declared.State.{State}
 use Rattle.steps.specs.Steps.{stepAt, stepCount, stepFault}
 use Rattle.sheets.specs.Sheets.{isSheet, fieldsVerdict, repeatsVerdict, jumpsKnown, unknownVerdict, sheetTests, sheetVerdict, nodeAt}
 use Rattle.tables.specs.Tables.{isTable, cellCount, cellAt, cellFault, fieldsVerdict as cellFields, cellTests, cellVerdict}
 use Rattle.states.specs.States.{stateFrom, zerosStand, bytesVerdict}
 use Rattle.engine.specs.Engine.{Form, Sheet, Table, nodesOf, standing, stateTested, stateVerdict, wordVerdict, answeredAt, wentFrom, ticked, shownAt}
-use Rattle.engine.specs.declared.answer.Ticked.{Ticked}
+use Rattle.engine.specs.declared.Ticked.{Ticked}
 use Rattle.translator.specs.Translation.{cellTotal, translationVerdict}
 use Rattle.state_calls.specs.StateCalls.{startVerdict, onBytes, tickedOn, shownOn}
 use Rattle.state_calls.proofs.StateCallLaws.{on-bytes-passed, on-bytes-refused}

@@ -6,15 +6,15 @@ use mathlib.Core.List.{List, [], _∷_}
 use lib.ListN.{length}
 use borrow.Author.Tests.{ne-eqb}
 use Rattle.records.specs.Verdicts.{firstRefusal}
-use Rattle.records.specs.declared.verdict.Verdict.{Verdict}
+use Rattle.records.specs.declared.Verdict.{Verdict}
 use Rattle.image.specs.Reading.{imageVerdict, zeroSettings, reading}
 use Rattle.writing.specs.Writing.{writeVerdict, written}
-use Rattle.image.specs.declared.settings.Settings.{Settings}
+use Rattle.image.specs.declared.Settings.{Settings}
 use Rattle.detectors.specs.Tick.{framesVerdict, refusedOn, ticked, engineTicked}
-use Rattle.detectors.specs.declared.bank.Bank.{Bank}
+use Rattle.detectors.specs.declared.Bank.{Bank}
 use Rattle.pins.specs.Pins.{pinsVerdict, driven}
-use Rattle.machine.specs.declared.node.Node.{Node}
-use Rattle.machine.specs.declared.state.State.{State}
+use Rattle.machine.specs.declared.Node.{Node}
+use Rattle.machine.specs.declared.State.{State}
 use Rattle.tables.specs.Tables.{partVerdict, cellWritten}
 use Rattle.states.specs.States.{stateFrom, bytesVerdict}
 use Rattle.engine.specs.Engine.{Form, stateVerdict, wordVerdict, refusedWith, answeredAt, wentFrom, ticked as form-ticked, shownAt}

@@ -13,7 +13,7 @@ use Rattle.image.specs.Reading.{imageVerdict, settingsOf, zeroSettings, reading
 use Rattle.writing.specs.Writing.{settingsVerdict, writeVerdict, imageOf, written}
 use Rattle.blank_image.specs.Blank.{blankImage}
 use Rattle.image.specs.Normal.{normal}
-use Rattle.image.specs.declared.settings.Settings.{Settings}
+use Rattle.image.specs.declared.Settings.{Settings}
 use Rattle.records.proofs.Every.{Bytes}
 use Rattle.image_laws.proofs.Conditions.{GoodBelow, Reached, usableAt, printedAt, Typed, MeantBelow, LowestLacking}
 use Rattle.image_laws.proofs.Acceptance as acceptance

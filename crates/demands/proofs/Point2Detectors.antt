@@ -8,11 +8,11 @@ use Rattle.records.specs.Numbers.{unreachable}
 use Rattle.records.specs.Verdicts.{accepted}
 use Rattle.image.specs.Reading.{groupAt}
 use Rattle.writing.specs.Writing.{settingsVerdict}
-use Rattle.image.specs.declared.settings.Settings.{Settings}
+use Rattle.image.specs.declared.Settings.{Settings}
 use Rattle.detectors.specs.Bank.{startBank, bankAfter, bankVerdict, channelAt}
 use Rattle.channels.specs.Frame.{frameAt}
 use Rattle.detectors.specs.Tick.{bankAt, framesVerdict, refusedOn, detectedOver, ticked, engineTicked}
-use Rattle.detectors.specs.declared.bank.Bank.{Bank}
+use Rattle.detectors.specs.declared.Bank.{Bank}
 use Rattle.detector_laws.proofs.Release.{ReleaseLevels}
 use Rattle.detector_laws.proofs.Release as release
 use Rattle.detector_laws.proofs.ChannelRange.{Quiet}

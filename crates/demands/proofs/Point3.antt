@@ -10,11 +10,11 @@ use lib.ListN.{length, getD, take, drop}
 use Rattle.records.specs.Lists.{each}
 use Rattle.records.specs.Verdicts.{accepted}
 use Rattle.records.specs.Tags.{tagAt, repeats, lookUp}
-use Rattle.records.specs.declared.verdict.Verdict.{Verdict}
+use Rattle.records.specs.declared.Verdict.{Verdict}
 use Rattle.records.proofs.Every.{Every, Bytes}
 use Rattle.records.proofs.TagLaws as tag-laws
 use Rattle.machine.specs.Machine.{startState, tickOn}
-use Rattle.machine.specs.declared.state.State.{State}
+use Rattle.machine.specs.declared.State.{State}
 use Rattle.tables.specs.Tables.{cellAt, cellCount, cellVerdict, tableVerdict}
 use Rattle.steps.specs.Steps.{stepAt, stepCount}
 use Rattle.sheets.specs.Sheets.{nodeAt, sheetVerdict}
@@ -22,7 +22,7 @@ use Rattle.sheets.proofs.AcceptedSheet.{AcceptedSheet}
 use Rattle.sheets.proofs.AcceptedSheet as sheets
 use Rattle.engine.specs.Engine.{Form, Sheet, Table, sheetStateVerdict, sheetTicked, tableStateVerdict, tableTicked}
 use Rattle.engine.specs.Runs.{runOf, sheetRun, tableRun}
-use Rattle.engine.specs.declared.answer.Ticked.{Ticked}
+use Rattle.engine.specs.declared.Ticked.{Ticked}
 use Rattle.translator.specs.Translation.{cellsOf, firstCell, cellTotal, cutAt, tableOf, translationVerdict, translation, translated}
 use Rattle.translator.proofs.CellCounts.{sum}
 use Rattle.translator.proofs.CellCounts as counts

@@ -6,10 +6,10 @@ use native.Mathlib.Decide.{ℕ-discrete}
 use native.Mathlib.Omega.{arith}
 use lib.ListN.{length}
 use Rattle.image.specs.Reading.{imageVerdict, settingsOf}
-use Rattle.image.specs.declared.settings.Settings.{Settings}
+use Rattle.image.specs.declared.Settings.{Settings}
 use Rattle.detectors.specs.Tick.{engineTicked}
-use Rattle.detectors.specs.declared.bank.Bank.{Bank}
-use Rattle.detectors.specs.declared.ticks.Detected.{Detected}
+use Rattle.detectors.specs.declared.Bank.{Bank}
+use Rattle.detectors.specs.declared.Detected.{Detected}
 use Rattle.detector_laws.proofs.Refusals.{refused-answer, answer-number}
 use Rattle.recordings.specs.Recordings.{startDetected, detectedAfter, recorded}
 use Rattle.recordings.proofs.RecordingLaws.{one-more, refusal-stays, recorded-bad-image, recorded-uneven, recorded-whole}

@@ -12,8 +12,8 @@ use Rattle.records.specs.Verdicts.{refusedUnless}
 use Rattle.image.specs.Codes.{codeNumber, pulses}
 use Rattle.image.specs.Reading.{groupAt, noLogic}
 use Rattle.writing.specs.Writing.{settingByte, settingsVerdict, codeVerdict, groupBytes, logicByte, pinLogicByte, hasLogic}
-use Rattle.image.specs.declared.settings.Logic.{Logic}
-use Rattle.image.specs.declared.settings.Settings.{Settings}
+use Rattle.image.specs.declared.Logic.{Logic}
+use Rattle.image.specs.declared.Settings.{Settings}
 use Rattle.channels.specs.Channel.{ticks}
 use Rattle.records.proofs.VerdictLaws.{accepted-tests}
 

@@ -5,14 +5,14 @@ use mathlib.Core.List.{List}
 use native.Mathlib.Nat.{zero-add, suc-ne-zero}
 use Rattle.records.specs.Numbers.{unreachable}
 use Rattle.records.specs.Verdicts.{accepted, refusedUnless}
-use Rattle.records.specs.declared.verdict.Verdict.{Verdict}
+use Rattle.records.specs.declared.Verdict.{Verdict}
 use Rattle.records.proofs.ListLaws.{each-at}
 use Rattle.records.proofs.VerdictLaws.{first-accepted}
 use Rattle.image.specs.Reading.{groupAt}
-use Rattle.image.specs.declared.settings.Settings.{Settings}
+use Rattle.image.specs.declared.Settings.{Settings}
 use Rattle.channels.specs.Channel.{startChannel}
 use Rattle.detectors.specs.Bank.{channelAt, nextChannel, bankAfter, startBank, inRange, bankVerdict}
-use Rattle.detectors.specs.declared.bank.Bank.{Bank}
+use Rattle.detectors.specs.declared.Bank.{Bank}
 use Rattle.detector_laws.proofs.ChannelRange.{InRange, in-range-true, true-in-range}
 use Rattle.records.proofs.VerdictLaws.{Lowest, unless-zero, unless-refused, tests-accepted, accepted-tests, lowest-shows}
 

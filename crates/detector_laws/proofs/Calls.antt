@@ -11,12 +11,12 @@ use Rattle.records.specs.Numbers.{unreachable}
 use Rattle.records.specs.Verdicts.{accepted}
 use Rattle.records.proofs.WordLaws.{wordOf-lt}
 use Rattle.writing.specs.Writing.{settingsVerdict}
-use Rattle.image.specs.declared.settings.Settings.{Settings}
+use Rattle.image.specs.declared.Settings.{Settings}
 use Rattle.detectors.specs.Bank.{faultsOf, warningsOf, bankVerdict, startBank}
 use Rattle.channels.specs.Frame.{frameAt}
 use Rattle.detectors.specs.Tick.{bankAt, Words, wordsAt, wordsOver, trace, levelsVerdict, framesVerdict, detectedAs, detectedOver, ticked, engineTicked}
-use Rattle.detectors.specs.declared.bank.Bank.{Bank}
-use Rattle.detectors.specs.declared.ticks.Detected.{Detected}
+use Rattle.detectors.specs.declared.Bank.{Bank}
+use Rattle.detectors.specs.declared.Detected.{Detected}
 use Rattle.records.proofs.VerdictLaws.{numberOf}
 use Rattle.detector_laws.proofs.StateKept.{start-accepted, run-kept, run-accepted}
 use Rattle.detector_laws.proofs.ChannelRule.{Agree, SameBits, same-bits}

@@ -8,13 +8,13 @@ use borrow.Author.Tests.{ltb-true, leb-true, leb-false, eqb-true, not-true, lt-l
 use lib.Dec.{leb, eqb}
 use Rattle.image.specs.Groups.{isVX}
 use Rattle.image.specs.Reading.{noLogic}
-use Rattle.image.specs.declared.settings.Logic.{Logic}
-use Rattle.image.specs.declared.settings.Group.{Group}
+use Rattle.image.specs.declared.Logic.{Logic}
+use Rattle.image.specs.declared.Group.{Group}
 use Rattle.channels.specs.Channel.{ticks, filterAfter, logicAfter, pulseNow, leftAfter, channelAfter, startFilter, startChannel}
 use Rattle.detectors.specs.Bank.{leftInRange, quiet, inRange}
-use Rattle.channels.specs.declared.channel.Channel.{Channel}
-use Rattle.channels.specs.declared.channel.Filter.{Filter}
-use Rattle.channels.specs.declared.channel.Sample.{Sample}
+use Rattle.channels.specs.declared.Channel.{Channel}
+use Rattle.channels.specs.declared.Filter.{Filter}
+use Rattle.channels.specs.declared.Sample.{Sample}
 use Rattle.detector_laws.proofs.AcceptedSettings.{AcceptedLogic, pulse-lasts}
 
 -- ---- what the range says

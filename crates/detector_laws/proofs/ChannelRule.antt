@@ -8,10 +8,10 @@ use lib.ListN.{getD}
 use Rattle.records.specs.Bits.{bits}
 use Rattle.records.proofs.WordLaws.{wordOf-bit}
 use Rattle.image.specs.Reading.{groupAt}
-use Rattle.image.specs.declared.settings.Input.{Input}
-use Rattle.image.specs.declared.settings.Input.the-variants.{VpMid, VpLow, VpUltralow, VhLow, VhHigh, AnalogFault, LogicFault, LogicFaultAnalogWarning, NoFunction}
-use Rattle.image.specs.declared.settings.Group.{Group}
-use Rattle.image.specs.declared.settings.Settings.{Settings}
+use Rattle.image.specs.declared.Input.{Input}
+use Rattle.image.specs.declared.Input.the-variants.{VpMid, VpLow, VpUltralow, VhLow, VhHigh, AnalogFault, LogicFault, LogicFaultAnalogWarning, NoFunction}
+use Rattle.image.specs.declared.Group.{Group}
+use Rattle.image.specs.declared.Settings.{Settings}
 use Rattle.channels.specs.Channel.{channelAfter, faultBit, warningBit}
 use Rattle.channels.specs.Frame.{frameAt, measured, levelAt, sampleAt}
 use Rattle.detectors.specs.Bank.{channelAt, faultsOf, warningsOf, startBank}

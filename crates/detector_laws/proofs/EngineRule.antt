@@ -8,11 +8,11 @@ use lib.ListN.{getD, take, drop}
 use lib.Seq.{take-take, drop-drop, take-nil}
 use Rattle.records.specs.Lists.{each}
 use Rattle.records.proofs.ListLaws.{each-at, each-length, each-ext, each-from}
-use Rattle.image.specs.declared.settings.Settings.{Settings}
+use Rattle.image.specs.declared.Settings.{Settings}
 use Rattle.detectors.specs.Bank.{channelAt, bankAfter, faultsOf, warningsOf, startBank}
 use Rattle.channels.specs.Frame.{frameAt}
 use Rattle.detectors.specs.Tick.{bankAt, Words, noWords, wordsAt, wordsOver, trace}
-use Rattle.detectors.specs.declared.bank.Bank.{Bank}
+use Rattle.detectors.specs.declared.Bank.{Bank}
 use Rattle.detector_laws.proofs.ChannelRule.{Agree, SameBits, same-channel, same-bits}
 
 -- ---- a run of engine ticks

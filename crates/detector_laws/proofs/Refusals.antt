@@ -10,17 +10,17 @@ use lib.Dec.{eqb}
 use lib.ListN.{length, getD}
 use Rattle.records.specs.Numbers.{wrong-length, bad-word}
 use Rattle.records.specs.Verdicts.{accepted, refusedUnless, orElse, firstRefusal}
-use Rattle.records.specs.declared.verdict.Verdict.{Verdict}
+use Rattle.records.specs.declared.Verdict.{Verdict}
 use Rattle.records.proofs.VerdictLaws.{orElse-pass, orElse-hit, first-accepted, FirstAt, first-shows, shows-first}
 use Rattle.records.proofs.Every.{none, _also_}
 use Rattle.records.proofs.TestLaws.{eq-test, unless-passed, unless-passes, all-zero, all-pass}
 use Rattle.writing.specs.Writing.{settingsVerdict}
-use Rattle.image.specs.declared.settings.Settings.{Settings}
+use Rattle.image.specs.declared.Settings.{Settings}
 use Rattle.detectors.specs.Bank.{bankVerdict}
 use Rattle.channels.specs.Frame.{frameAt}
 use Rattle.detectors.specs.Tick.{bankAt, wordsOver, trace, levelsInRange, levelsVerdict, framesVerdict, detectedAs, refusedOn, detected, detectedOver}
-use Rattle.detectors.specs.declared.bank.Bank.{Bank}
-use Rattle.detectors.specs.declared.ticks.Detected.{Detected}
+use Rattle.detectors.specs.declared.Bank.{Bank}
+use Rattle.detectors.specs.declared.Detected.{Detected}
 use Rattle.detector_laws.proofs.BankRange.{bank-zero}
 use Rattle.records.proofs.VerdictLaws.{numberOf, unless-zero, unless-refused, tests-accepted, accepted-tests, lowest-shows, shows-lowest}
 

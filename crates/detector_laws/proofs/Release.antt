@@ -2,8 +2,8 @@
 use Prim.Native.Nat.{ℕ, _≤_, _<_}
 use native.Mathlib.Omega.{arith}
 use Rattle.image.specs.Reading.{groupAt}
-use Rattle.image.specs.declared.settings.Settings.{Settings}
-use Rattle.image.specs.declared.settings.Threshold.{Threshold}
+use Rattle.image.specs.declared.Settings.{Settings}
+use Rattle.image.specs.declared.Threshold.{Threshold}
 use Rattle.channels.specs.Channel.{overRelease, underRelease}
 
 -- the level at which Over lets go, of a threshold that is a byte, whatever the hysteresis

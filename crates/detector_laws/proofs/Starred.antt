@@ -3,10 +3,10 @@ use Prim.Native.Nat.{ℕ}
 use mathlib.Core.Path.{_≡_, refl}
 use mathlib.Core.Bool.{Bool, true, false, xor}
 use mathlib.Core.List.{List, [], _∷_}
-use Rattle.image.specs.declared.settings.Threshold.{Threshold}
-use Rattle.image.specs.declared.settings.Logic.{Logic}
+use Rattle.image.specs.declared.Threshold.{Threshold}
+use Rattle.image.specs.declared.Logic.{Logic}
 use Rattle.channels.specs.Channel.{overRelease, underRelease, overAfter, underAfter, ticks, filterAfter, logicAfter, pulseNow, leftAfter, logicFault, startFilter}
-use Rattle.channels.specs.declared.channel.Filter.{Filter}
+use Rattle.channels.specs.declared.Filter.{Filter}
 
 -- a threshold with its hysteresis
 abbrev pub threshold : ℕ → ℕ → Threshold

@@ -8,12 +8,12 @@ use borrow.Author.Tests.{lt-leb}
 use Rattle.records.specs.Verdicts.{accepted}
 use Rattle.image.specs.Reading.{groupAt}
 use Rattle.writing.specs.Writing.{settingsVerdict}
-use Rattle.image.specs.declared.settings.Input.{Input}
-use Rattle.image.specs.declared.settings.Settings.{Settings}
+use Rattle.image.specs.declared.Input.{Input}
+use Rattle.image.specs.declared.Settings.{Settings}
 use Rattle.channels.specs.Frame.{frameAt, levelAt, sampleAt}
 use Rattle.detectors.specs.Bank.{channelAt, bankAfter, startBank, bankVerdict}
 use Rattle.detectors.specs.Tick.{bankAt}
-use Rattle.detectors.specs.declared.bank.Bank.{Bank}
+use Rattle.detectors.specs.declared.Bank.{Bank}
 use Rattle.records.proofs.VerdictLaws.{numberOf}
 use Rattle.detector_laws.proofs.AcceptedSettings.{accepted-logic}
 use Rattle.detector_laws.proofs.ChannelRange.{Quiet, InRange, range-kept, range-start}

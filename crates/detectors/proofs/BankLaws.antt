@@ -8,10 +8,10 @@ use mir.Val.{Val}
 use denote.Laws.{Is as Owned}
 use denote.Struct.Declared.{row}
 use Rattle.image.specs.Reading.{groupAt}
-use Rattle.image.specs.declared.settings.Settings.{Settings}
+use Rattle.image.specs.declared.Settings.{Settings}
 use Rattle.detectors.specs.Bank.{channelAt, inRange}
-use Rattle.detectors.specs.declared.bank.Bank.{Bank}
-use Rattle.detectors.proofs.bank.Bank.{the-type}
+use Rattle.detectors.specs.declared.Bank.{Bank}
+use Rattle.detectors.proofs.Bank.{the-type}
 
 -- ---- what owning a bank tells of its array
 pub ten-channels : (bank : Bank) (values : List Val) → Owned (row the-type) bank values → length (bank .channels) ≡ 10

@@ -11,24 +11,24 @@ use lib.ListN.{length, getD, drop}
 use lib.Seq.{getD-take, getD-drop}
 use Rattle.records.specs.Lists.{each}
 use Rattle.records.specs.Verdicts.{accepted}
-use Rattle.records.specs.declared.verdict.Verdict.{Verdict}
+use Rattle.records.specs.declared.Verdict.{Verdict}
 use Rattle.records.specs.Words.{wordOf}
 use Rattle.records.proofs.ListLaws.{each-at, each-length, each-ext, fill-all}
 use Rattle.records.proofs.VerdictLaws.{first-accepted}
 use Rattle.records.proofs.WordLaws.{wordOf-ext}
 use Rattle.image.specs.Reading.{groupAt}
-use Rattle.image.specs.declared.settings.Group.{Group}
-use Rattle.image.specs.declared.settings.Settings.{Settings}
+use Rattle.image.specs.declared.Group.{Group}
+use Rattle.image.specs.declared.Settings.{Settings}
 use Rattle.channels.specs.Channel.{channelAfter, faultBit, warningBit, startChannel}
 use Rattle.channels.specs.Frame.{frameAt, sampleAt}
 use Rattle.detectors.specs.Bank.{channelAt, nextChannel, bankAfter, faultsOf, warningsOf}
 use Rattle.detectors.specs.Tick.{bankAt, wordsAt, trace, levelsInRange, noWords, wordsOver, advancedOver, framesVerdict, refusedOn, detected, detectedOver}
 use Rattle.channels.specs.Run.{channelOver, ranOver}
-use Rattle.detectors.specs.declared.bank.Bank.{Bank}
-use Rattle.detectors.specs.declared.bank.Advanced.{Advanced}
-use Rattle.detectors.specs.declared.ticks.Detected.{Detected}
-use Rattle.channels.specs.declared.channel.Channel.{Channel}
-use Rattle.channels.specs.declared.channel.Ran.{Ran}
+use Rattle.detectors.specs.declared.Bank.{Bank}
+use Rattle.detectors.specs.declared.advancing.Advanced.{Advanced}
+use Rattle.detectors.specs.declared.Detected.{Detected}
+use Rattle.channels.specs.declared.Channel.{Channel}
+use Rattle.channels.specs.declared.Ran.{Ran}
 
 -- ---- a frame
 -- the test of its level byte, as the code reads it

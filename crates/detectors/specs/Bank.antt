@@ -8,16 +8,16 @@ use Rattle.records.specs.Words.{wordOf}
 use Rattle.records.specs.Lists.{each}
 use Rattle.records.specs.Numbers.{unreachable}
 use Rattle.records.specs.Verdicts.{refusedUnless, firstRefusal}
-use Rattle.records.specs.declared.verdict.Verdict.{Verdict}
+use Rattle.records.specs.declared.Verdict.{Verdict}
 use Rattle.image.specs.Groups.{isVX}
 use Rattle.image.specs.Reading.{groupAt}
-use Rattle.image.specs.declared.settings.Logic.{Logic}
-use Rattle.image.specs.declared.settings.Group.{Group}
-use Rattle.image.specs.declared.settings.Settings.{Settings}
+use Rattle.image.specs.declared.Logic.{Logic}
+use Rattle.image.specs.declared.Group.{Group}
+use Rattle.image.specs.declared.Settings.{Settings}
 use Rattle.channels.specs.Channel.{ticks, channelAfter, faultBit, warningBit, startChannel}
 use Rattle.channels.specs.Frame.{sampleAt}
-use Rattle.channels.specs.declared.channel.Channel.{Channel}
-use Rattle.detectors.specs.declared.bank.Bank.{Bank}
+use Rattle.channels.specs.declared.Channel.{Channel}
+use Rattle.detectors.specs.declared.Bank.{Bank}
 
 abbrev pub channelAt : Bank → ℕ → Channel
 channelAt bank k = getD (bank .channels) k startChannel

@@ -7,14 +7,14 @@ use lib.ListN.{length, getD}
 use Rattle.records.specs.Lists.{each}
 use Rattle.records.specs.Numbers.{wrong-length, bad-word}
 use Rattle.records.specs.Verdicts.{accepted, refusedUnless, firstRefusal}
-use Rattle.records.specs.declared.verdict.Verdict.{Verdict}
+use Rattle.records.specs.declared.Verdict.{Verdict}
 use Rattle.writing.specs.Writing.{settingsVerdict}
-use Rattle.image.specs.declared.settings.Settings.{Settings}
+use Rattle.image.specs.declared.Settings.{Settings}
 use Rattle.channels.specs.Frame.{frameAt}
 use Rattle.detectors.specs.Bank.{bankAfter, faultsOf, warningsOf, bankVerdict}
-use Rattle.detectors.specs.declared.bank.Bank.{Bank}
-use Rattle.detectors.specs.declared.bank.Advanced.{Advanced}
-use Rattle.detectors.specs.declared.ticks.Detected.{Detected}
+use Rattle.detectors.specs.declared.Bank.{Bank}
+use Rattle.detectors.specs.declared.advancing.Advanced.{Advanced}
+use Rattle.detectors.specs.declared.Detected.{Detected}
 
 -- ---- frames one after the other
 

@@ -1,6 +1,7 @@
 // The calls on frames: every test first, then the ticks.
-use crate::bank;
-use crate::bank::Bank;
+use crate::Bank;
+use crate::Detected;
+use crate::advancing;
 use image::Settings;
 use records::BAD_WORD;
 use records::Verdict;
@@ -11,15 +12,6 @@ ghost use Prim.Native.Nat.{_≤_, _*_};
 ghost use mathlib.Core.Path.{_≡_};
 ghost use lib.ListN.{length};
 ghost use Rattle.detectors.specs.Tick.{framesVerdict, levelsVerdict, detectedOver, ticked, engineTicked};
-
-// The bank after the call and the words, with number 0; or the refusal, with the bank as received
-// and zero words.
-pub struct Detected {
-    pub verdict: Verdict,
-    pub bank: Bank,
-    pub faults: u16,
-    pub warnings: u16,
-}
 
 // One detector tick, 5 µs, on one frame of eleven bytes.
 pub fn tick(settings: Settings, bank: Bank, frame: &[u8]) -> Detected
@@ -49,7 +41,7 @@ fn detect(settings: Settings, bank: Bank, frames: &[u8], n: usize) -> Detected
             warnings: 0,
         };
     }
-    let advanced = bank::advance(settings, bank, frames, n);
+    let advanced = advancing::advance(settings, bank, frames, n);
     let bank = advanced.bank;
     Detected {
         verdict,
@@ -68,7 +60,7 @@ fn frames_verdict(settings: Settings, bank: Bank, frames: &[u8], n: usize) -> Ve
         return refused(WRONG_LENGTH, 0);
     }
     let means = writing::settings_verdict(settings);
-    let state = bank::bank_verdict(settings, bank);
+    let state = advancing::bank_verdict(settings, bank);
     let levels = levels_verdict(frames, n);
     means.then(state).then(levels)
 }

@@ -5,13 +5,13 @@ use mathlib.Core.List.{List, [], _∷_}
 use native.Mathlib.Omega.{arith}
 use lib.Dec.{ltb}
 use Rattle.records.specs.Verdicts.{refusedUnless, orElse, firstRefusal}
-use Rattle.records.specs.declared.verdict.Verdict.{Verdict}
+use Rattle.records.specs.declared.Verdict.{Verdict}
 use Rattle.records.proofs.VerdictLaws.{first-tested, first-last}
 use Rattle.machine.specs.Fields.{wordInRange}
-use Rattle.machine.specs.declared.node.Node.{Node}
-use Rattle.machine.specs.declared.node.Standing.{Standing}
-use Rattle.machine.specs.declared.state.State.{State}
-use Rattle.engine.specs.declared.answer.Ticked.{Ticked}
+use Rattle.machine.specs.declared.Node.{Node}
+use Rattle.machine.specs.declared.Standing.{Standing}
+use Rattle.machine.specs.declared.State.{State}
+use Rattle.engine.specs.declared.Ticked.{Ticked}
 use Rattle.engine.specs.declared.ticking.Went.{Went}
 use Rattle.engine.specs.Engine.{Form, nodesOf, standingAt, stateTested, stateVerdict, wordVerdict, wentFrom, answeredAt, ticked, shownAt}
 

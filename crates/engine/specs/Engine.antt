@@ -5,18 +5,18 @@ use mathlib.Core.List.{List, [], _∷_}
 use lib.Dec.{ltb, eqb}
 use Rattle.records.specs.Numbers.{unreachable, bad-word}
 use Rattle.records.specs.Verdicts.{accepted, refusedUnless, firstRefusal}
-use Rattle.records.specs.declared.verdict.Verdict.{Verdict}
+use Rattle.records.specs.declared.Verdict.{Verdict}
 use Rattle.machine.specs.Fields.{wordInRange, elapsedInRange}
 use Rattle.machine.specs.Machine.{tickAt}
-use Rattle.machine.specs.declared.exits.Exit.the-variants.{Stay}
-use Rattle.machine.specs.declared.node.Node.{Node}
-use Rattle.machine.specs.declared.node.Standing.{Standing}
-use Rattle.machine.specs.declared.state.State.{State}
-use Rattle.machine.specs.declared.state.Taken.{Taken}
+use Rattle.machine.specs.declared.Exit.the-variants.{Stay}
+use Rattle.machine.specs.declared.Node.{Node}
+use Rattle.machine.specs.declared.Standing.{Standing}
+use Rattle.machine.specs.declared.State.{State}
+use Rattle.machine.specs.declared.Taken.{Taken}
 use Rattle.tables.specs.Tables.{cellAt, cellCount, cellVerdict}
 use Rattle.steps.specs.Steps.{stepCount}
 use Rattle.sheets.specs.Sheets.{sheetVerdict, nodeAt}
-use Rattle.engine.specs.declared.answer.Ticked.{Ticked}
+use Rattle.engine.specs.declared.Ticked.{Ticked}
 use Rattle.engine.specs.declared.ticking.Went.{Went}
 
 -- ---- what differs between the forms

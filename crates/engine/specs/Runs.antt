@@ -2,9 +2,9 @@
 use Prim.Native.Nat.{ℕ}
 use mathlib.Core.List.{List, [], _∷_}
 use Rattle.machine.specs.Machine.{startState}
-use Rattle.machine.specs.declared.state.State.{State}
+use Rattle.machine.specs.declared.State.{State}
 use Rattle.engine.specs.Engine.{Form, Sheet, Table, ticked, shownAt}
-use Rattle.engine.specs.declared.answer.Ticked.{Ticked}
+use Rattle.engine.specs.declared.Ticked.{Ticked}
 
 -- the answers of one tick after the other, each from the state that the one before gave back
 unfoldable pub ticksFrom : (State → ℕ → Ticked) → State → List ℕ → List Ticked

@@ -3,13 +3,12 @@
 // None of the calls has a `requires`. A refusal gives back the state it received, with zero outputs
 // and step 0. On a sheet all its own tests are made, without cells and room. On a table only the cell
 // at which the engine stands is tested; an entered cell is tested when a later tick meets it.
-mod answer;
 mod ticking;
 
-pub use answer::Ticked;
 use machine::Standing;
 use machine::State;
 use records::UNREACHABLE;
+use records::Verdict;
 use sheets::node_at;
 use sheets::sheet_verdict;
 use steps::step_count;
@@ -21,6 +20,15 @@ use ticking::state_verdict;
 ghost use mathlib.Core.Path.{_≡_};
 ghost use Rattle.machine.specs.Machine.{startState};
 ghost use Rattle.engine.specs.Engine.{Form, Sheet, Table, standingAt, ticked, shownAt};
+
+// The state after the tick, with the outputs and the step that show there; or the refusal, with the
+// state as received.
+pub struct Ticked {
+    pub verdict: Verdict,
+    pub state: State,
+    pub outputs: u16,
+    pub step: u8,
+}
 
 // Where every run starts: step 0 or cell 0, elapsed 0.
 pub fn start() -> State

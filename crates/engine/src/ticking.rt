@@ -1,5 +1,5 @@
 // What every call makes on nodes: it knows nothing of bytes.
-use crate::answer::Ticked;
+use crate::Ticked;
 use machine::Exit;
 use machine::Node;
 use machine::State;

@@ -5,8 +5,8 @@ use lib.ListN.{length, length-map}
 use mir.Val.{Val}
 use denote.Laws.{Is as Owned}
 use denote.Struct.Declared.{row}
-use Rattle.image.specs.declared.settings.Settings.{Settings}
-use Rattle.image.proofs.settings.Settings.{the-type}
+use Rattle.image.specs.declared.Settings.{Settings}
+use Rattle.image.proofs.Settings.{the-type}
 
 -- what owning settings tells of their array
 pub ten-groups : (settings : Settings) (values : List Val) → Owned (row the-type) settings values → length (settings .groups) ≡ 10

@@ -5,16 +5,16 @@ use mathlib.Core.List.{List, [], _∷_}
 use lib.Dec.{ltb, eqb}
 use Rattle.records.specs.Numbers.{accepted-number, out-of-range}
 use Rattle.image.specs.Groups.{isVP, isVH, isVX}
-use Rattle.image.specs.declared.codes.Code.{Code}
-use Rattle.image.specs.declared.codes.Code.the-variants.{Is, Lacking}
-use Rattle.image.specs.declared.settings.FaultType.{FaultType}
-use Rattle.image.specs.declared.settings.FaultType.the-variants.{Over, UnderOrOver, Under, Off}
-use Rattle.image.specs.declared.settings.Input.{Input}
-use Rattle.image.specs.declared.settings.Input.the-variants.{VpMid, VpLow, VpUltralow, VhLow, VhHigh, AnalogFault, LogicFault, LogicFaultAnalogWarning, NoFunction}
-use Rattle.image.specs.declared.settings.Source.{Source}
-use Rattle.image.specs.declared.settings.Source.the-variants.{Disabled, Engine, DrivenLow, DrivenHigh}
-use Rattle.image.specs.declared.settings.Pull.{Pull}
-use Rattle.image.specs.declared.settings.Pull.the-variants.{Unpulled, Vddcap300k, WeakVp1, PushPullVp1, WeakVp2, PushPullVp2, WeakVp3, PushPullVp3, WeakVp4, PushPullVp4, WeakVddcap, PushPullVddcap}
+use Rattle.image.specs.declared.Code.{Code}
+use Rattle.image.specs.declared.Code.the-variants.{Is, Lacking}
+use Rattle.image.specs.declared.FaultType.{FaultType}
+use Rattle.image.specs.declared.FaultType.the-variants.{Over, UnderOrOver, Under, Off}
+use Rattle.image.specs.declared.Input.{Input}
+use Rattle.image.specs.declared.Input.the-variants.{VpMid, VpLow, VpUltralow, VhLow, VhHigh, AnalogFault, LogicFault, LogicFaultAnalogWarning, NoFunction}
+use Rattle.image.specs.declared.Source.{Source}
+use Rattle.image.specs.declared.Source.the-variants.{Disabled, Engine, DrivenLow, DrivenHigh}
+use Rattle.image.specs.declared.Pull.{Pull}
+use Rattle.image.specs.declared.Pull.the-variants.{Unpulled, Vddcap300k, WeakVp1, PushPullVp1, WeakVp2, PushPullVp2, WeakVp3, PushPullVp3, WeakVp4, PushPullVp4, WeakVddcap, PushPullVddcap}
 
 -- ---- what a look-up answers: a code, number 0; or that no code has the meaning, number 4 and code 0
 abbrev pub codeNumber : Code → ℕ

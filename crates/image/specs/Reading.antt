@@ -8,20 +8,20 @@ use Rattle.records.specs.Bits.{bits}
 use Rattle.records.specs.Lists.{each}
 use Rattle.records.specs.Numbers.{wrong-length, reserved, unprinted}
 use Rattle.records.specs.Verdicts.{refusedUnless, firstRefusal}
-use Rattle.records.specs.declared.verdict.Verdict.{Verdict}
+use Rattle.records.specs.declared.Verdict.{Verdict}
 use Rattle.image.specs.Groups.{isVP, isVH, isVX, part}
 use Rattle.image.specs.Codes.{times, pulses, faultTypes, ranges, highRanges, functions, sources, sourcePrinted, pulls, pullPrinted}
-use Rattle.image.specs.declared.settings.FaultType.the-variants.{Over}
-use Rattle.image.specs.declared.settings.Input.{Input}
-use Rattle.image.specs.declared.settings.Input.the-variants.{VpMid, VhLow, AnalogFault}
-use Rattle.image.specs.declared.settings.Source.the-variants.{Disabled}
-use Rattle.image.specs.declared.settings.Pull.the-variants.{Unpulled}
-use Rattle.image.specs.declared.settings.Threshold.{Threshold}
-use Rattle.image.specs.declared.settings.Logic.{Logic}
-use Rattle.image.specs.declared.settings.Output.{Output}
-use Rattle.image.specs.declared.settings.Group.{Group}
-use Rattle.image.specs.declared.settings.Settings.{Settings}
-use Rattle.image.specs.declared.reader.Reading.{Reading}
+use Rattle.image.specs.declared.FaultType.the-variants.{Over}
+use Rattle.image.specs.declared.Input.{Input}
+use Rattle.image.specs.declared.Input.the-variants.{VpMid, VhLow, AnalogFault}
+use Rattle.image.specs.declared.Source.the-variants.{Disabled}
+use Rattle.image.specs.declared.Pull.the-variants.{Unpulled}
+use Rattle.image.specs.declared.Threshold.{Threshold}
+use Rattle.image.specs.declared.Logic.{Logic}
+use Rattle.image.specs.declared.Output.{Output}
+use Rattle.image.specs.declared.Group.{Group}
+use Rattle.image.specs.declared.Settings.{Settings}
+use Rattle.image.specs.declared.Reading.{Reading}
 
 -- ---- acceptance
 

@@ -11,10 +11,10 @@ use lib.ListN.{length, getD}
 use lib.Dec.{lit<}
 use Rattle.records.specs.Numbers.{wrong-length, reserved, unprinted, out-of-range}
 use Rattle.records.specs.Verdicts.{accepted, refusedUnless, orElse, firstRefusal}
-use Rattle.records.specs.declared.verdict.Verdict.{Verdict}
+use Rattle.records.specs.declared.Verdict.{Verdict}
 use Rattle.image.specs.Reading.{imageVerdict}
 use Rattle.writing.specs.Writing.{settingByte, settingsVerdict, writeVerdict}
-use Rattle.image.specs.declared.settings.Settings.{Settings}
+use Rattle.image.specs.declared.Settings.{Settings}
 use Rattle.image_laws.proofs.Conditions.{usableAt, printedAt, GoodBelow, Reached, ImageAnswer, MeantBelow, LowestLacking, SettingsAnswer}
 use Rattle.image_laws.proofs.AcceptanceLaws.{unlike, refused-exactly, ByteAnswer, byte-answer, byte-reserved, byte-unprinted, byte-refused, image-zero, another-length, eighty-of, image-lowest, image-refused, not-meant, settings-zero, settings-lowest}
 use Rattle.records.proofs.VerdictLaws.{numberOf, orElse-pass, orElse-end}

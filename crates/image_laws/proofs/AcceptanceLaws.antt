@@ -12,14 +12,14 @@ use lib.Dec.{T, T-not, eqb, eqb-refl}
 use Rattle.records.specs.Lists.{each}
 use Rattle.records.specs.Numbers.{wrong-length, reserved, unprinted, out-of-range}
 use Rattle.records.specs.Verdicts.{accepted, refused, refusedUnless, orElse, firstRefusal}
-use Rattle.records.specs.declared.verdict.Verdict.{Verdict}
+use Rattle.records.specs.declared.Verdict.{Verdict}
 use Rattle.records.proofs.VerdictLaws.{numberOf, placeOf, first-accepted}
 use Rattle.records.proofs.TestLaws.{LowestWithout, ShowsLowest, NamesLowest, shows-lowest-of}
 use Rattle.image.specs.Reading.{usable, printed, byteVerdict, addressVerdict, imageVerdict}
 use Rattle.writing.specs.Writing.{settingByte, codeVerdict, settingsVerdict}
-use Rattle.image.specs.declared.codes.Code.{Code}
-use Rattle.image.specs.declared.codes.Code.the-variants.{Is, Lacking}
-use Rattle.image.specs.declared.settings.Settings.{Settings}
+use Rattle.image.specs.declared.Code.{Code}
+use Rattle.image.specs.declared.Code.the-variants.{Is, Lacking}
+use Rattle.image.specs.declared.Settings.{Settings}
 use Rattle.image_laws.proofs.TableLaws.{never-lacking}
 use Rattle.image_laws.proofs.Conditions.{GoodByte, Reached}
 

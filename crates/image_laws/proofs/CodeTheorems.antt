@@ -12,13 +12,13 @@ use lib.Dec.{ltb, leb}
 use lib.ListN.{length, getD}
 use Rattle.image_laws.proofs.TableLaws.{everywhere, at-each, isCode, is-code, never-lacking, View, view}
 use Rattle.image.specs.Codes.{lookup, times, pulses, faultTypes, faultCode, sources, sourceCode, sourcePrinted, pulls, pullCode, pullPrinted}
-use Rattle.image.specs.declared.codes.Code.the-variants.{Is, Lacking}
-use Rattle.image.specs.declared.settings.FaultType.{FaultType}
-use Rattle.image.specs.declared.settings.FaultType.the-variants.{Over, UnderOrOver, Under, Off}
-use Rattle.image.specs.declared.settings.Source.{Source}
-use Rattle.image.specs.declared.settings.Source.the-variants.{Disabled, Engine, DrivenLow, DrivenHigh}
-use Rattle.image.specs.declared.settings.Pull.{Pull}
-use Rattle.image.specs.declared.settings.Pull.the-variants.{Unpulled, Vddcap300k, WeakVp1, PushPullVp1, WeakVp2, PushPullVp2, WeakVp3, PushPullVp3, WeakVp4, PushPullVp4, WeakVddcap, PushPullVddcap}
+use Rattle.image.specs.declared.Code.the-variants.{Is, Lacking}
+use Rattle.image.specs.declared.FaultType.{FaultType}
+use Rattle.image.specs.declared.FaultType.the-variants.{Over, UnderOrOver, Under, Off}
+use Rattle.image.specs.declared.Source.{Source}
+use Rattle.image.specs.declared.Source.the-variants.{Disabled, Engine, DrivenLow, DrivenHigh}
+use Rattle.image.specs.declared.Pull.{Pull}
+use Rattle.image.specs.declared.Pull.the-variants.{Unpulled, Vddcap300k, WeakVp1, PushPullVp1, WeakVp2, PushPullVp2, WeakVp3, PushPullVp3, WeakVp4, PushPullVp4, WeakVddcap, PushPullVddcap}
 
 -- a printed code of a table that has the meaning, and no lower one has it
 pub record LowestCode {A : Type 0} (table : List A) (first : A) (printed : ℕ → Bool) (meaning : A) (code : ℕ) : Type 0 where

@@ -6,11 +6,11 @@ use mathlib.Core.List.{List}
 use lib.ListN.{length, getD}
 use Rattle.records.specs.Numbers.{wrong-length, reserved, unprinted, out-of-range}
 use Rattle.records.specs.Verdicts.{accepted}
-use Rattle.records.specs.declared.verdict.Verdict.{Verdict}
+use Rattle.records.specs.declared.Verdict.{Verdict}
 use Rattle.image.specs.Reading.{usable, printed, groupAt}
 use Rattle.writing.specs.Writing.{settingByte}
-use Rattle.image.specs.declared.codes.Code.the-variants.{Lacking}
-use Rattle.image.specs.declared.settings.Settings.{Settings}
+use Rattle.image.specs.declared.Code.the-variants.{Lacking}
+use Rattle.image.specs.declared.Settings.{Settings}
 
 -- ---- the image
 -- byte j of group k has no bit set that cannot be used, and has only printed codes

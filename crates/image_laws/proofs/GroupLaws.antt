@@ -10,9 +10,9 @@ use Rattle.image.specs.Codes.{inputCode}
 use Rattle.image.specs.Reading.{reservedFrom, inputOf, logicOf}
 use Rattle.writing.specs.Writing.{logicByte}
 use Rattle.image.specs.Normal.{normalByte, rangeTwice}
-use Rattle.image.specs.declared.settings.Input.{Input}
-use Rattle.image.specs.declared.settings.Input.the-variants.{VpMid, VpLow, VpUltralow, VhLow, VhHigh, AnalogFault, LogicFault, LogicFaultAnalogWarning, NoFunction}
-use Rattle.image.specs.declared.settings.Logic.{Logic}
+use Rattle.image.specs.declared.Input.{Input}
+use Rattle.image.specs.declared.Input.the-variants.{VpMid, VpLow, VpUltralow, VhLow, VhHigh, AnalogFault, LogicFault, LogicFaultAnalogWarning, NoFunction}
+use Rattle.image.specs.declared.Logic.{Logic}
 
 -- two groups of the same kind of pin
 pub record Same (k m : ℕ) : Type 0 where

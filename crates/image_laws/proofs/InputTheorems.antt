@@ -10,9 +10,9 @@ use Rattle.image.specs.Codes.{codeValue, inputCode}
 use Rattle.image.specs.Reading.{usable, printed, inputOf, groupOf}
 use Rattle.writing.specs.Writing.{groupBytes}
 use Rattle.image.specs.Normal.{normalByte}
-use Rattle.image.specs.declared.codes.Code.{Code}
-use Rattle.image.specs.declared.codes.Code.the-variants.{Is, Lacking}
-use Rattle.image.specs.declared.settings.Input.{Input}
+use Rattle.image.specs.declared.Code.{Code}
+use Rattle.image.specs.declared.Code.the-variants.{Is, Lacking}
+use Rattle.image.specs.declared.Input.{Input}
 use Rattle.image_laws.proofs.TableLaws.{never-lacking}
 use Rattle.image_laws.proofs.ByteLaws.{below-byte, below-usable, normal-le}
 use Rattle.image_laws.proofs.ReadWriteLaws.{read-write}

@@ -11,11 +11,11 @@ use Rattle.records.specs.Verdicts.{accepted}
 use Rattle.image.specs.Codes.{codeValue, lookup, times, faultCode, inputCode}
 use Rattle.image.specs.Reading.{imageVerdict, thresholdOf, groupOf, settingsOf, groupAt}
 use Rattle.writing.specs.Writing.{beside, hysteresisByte, timingByte, logicByte, outputByte, groupBytes, settingByte, settingsVerdict, imageOf}
-use Rattle.image.specs.declared.codes.Code.{Code}
-use Rattle.image.specs.declared.codes.Code.the-variants.{Is, Lacking}
-use Rattle.image.specs.declared.settings.FaultType.{FaultType}
-use Rattle.image.specs.declared.settings.Group.{Group}
-use Rattle.image.specs.declared.settings.Settings.{Settings}
+use Rattle.image.specs.declared.Code.{Code}
+use Rattle.image.specs.declared.Code.the-variants.{Is, Lacking}
+use Rattle.image.specs.declared.FaultType.{FaultType}
+use Rattle.image.specs.declared.Group.{Group}
+use Rattle.image.specs.declared.Settings.{Settings}
 use Rattle.image_laws.proofs.TableLaws.{never-lacking}
 use Rattle.records.proofs.VerdictLaws.{numberOf}
 use Rattle.image_laws.proofs.Refusals.{image-length}

@@ -9,8 +9,8 @@ use Rattle.image.specs.Codes.{inputCode}
 use Rattle.image.specs.Reading.{reservedFrom, usable, printed, inputOf, logicOf, outputOf, thresholdOf, groupOf}
 use Rattle.writing.specs.Writing.{groupBytes, hysteresisByte, timingByte, logicByte, pinLogicByte, hasLogic, outputByte}
 use Rattle.image.specs.Normal.{normalByte, rangeTwice, pullTwice}
-use Rattle.image.specs.declared.codes.Code.{Code}
-use Rattle.image.specs.declared.codes.Code.the-variants.{Is, Lacking}
+use Rattle.image.specs.declared.Code.{Code}
+use Rattle.image.specs.declared.Code.the-variants.{Is, Lacking}
 use Rattle.image_laws.proofs.TableLaws.{everywhere, at-each, isCode, is-code}
 use Rattle.image_laws.proofs.GroupLaws.{Same, Like, like, inputCode-same, inputOf-same, logicByte-same, logicOf-same, reserved-same, normal-same}
 use Rattle.image_laws.proofs.ByteLaws.{eight, usable-below}

@@ -11,7 +11,7 @@ use Rattle.records.specs.Verdicts.{accepted}
 use Rattle.image.specs.Codes.{codeValue}
 use Rattle.image.specs.Reading.{imageVerdict, settingsOf, zeroSettings, reading}
 use Rattle.writing.specs.Writing.{settingByte, writeVerdict, imageOf, written}
-use Rattle.image.specs.declared.settings.Settings.{Settings}
+use Rattle.image.specs.declared.Settings.{Settings}
 use Rattle.records.proofs.VerdictLaws.{numberOf}
 use Rattle.image_laws.proofs.AcceptanceLaws.{image-zero}
 use Rattle.image_laws.proofs.Acceptance.{write-wrong-length}

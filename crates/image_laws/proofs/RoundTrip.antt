@@ -11,8 +11,8 @@ use Rattle.image.specs.Codes.{codeValue}
 use Rattle.image.specs.Reading.{imageVerdict, groupOf, settingsOf, reading}
 use Rattle.writing.specs.Writing.{settingByte, settingsVerdict, writeVerdict, imageOf, written}
 use Rattle.image.specs.Normal.{normalByte, normal}
-use Rattle.image.specs.declared.reader.Reading.{Reading}
-use Rattle.image.specs.declared.settings.Settings.{Settings}
+use Rattle.image.specs.declared.Reading.{Reading}
+use Rattle.image.specs.declared.Settings.{Settings}
 use Rattle.image_laws.proofs.TableLaws.{never-lacking}
 use Rattle.records.proofs.VerdictLaws.{numberOf}
 use Rattle.records.proofs.Every.{Bytes}

@@ -13,10 +13,10 @@ use Rattle.image.specs.Codes.{codeValue}
 use Rattle.image.specs.Reading.{imageVerdict, groupOf, settingsOf, zeroGroup, groupAt}
 use Rattle.writing.specs.Writing.{groupBytes, settingByte, settingsVerdict, imageOf}
 use Rattle.image.specs.Normal.{normalByte}
-use Rattle.image.specs.declared.codes.Code.{Code}
-use Rattle.image.specs.declared.codes.Code.the-variants.{Is, Lacking}
-use Rattle.image.specs.declared.settings.Group.{Group}
-use Rattle.image.specs.declared.settings.Settings.{Settings}
+use Rattle.image.specs.declared.Code.{Code}
+use Rattle.image.specs.declared.Code.the-variants.{Is, Lacking}
+use Rattle.image.specs.declared.Group.{Group}
+use Rattle.image.specs.declared.Settings.{Settings}
 use Rattle.records.proofs.Every.{Bytes}
 use Rattle.image_laws.proofs.Conditions.{GoodBelow}
 use Rattle.image_laws.proofs.AcceptanceLaws.{image-zero, settings-zero}

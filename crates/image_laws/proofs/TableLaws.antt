@@ -10,8 +10,8 @@ use borrow.Author.Tests.{eq-eqb, ne-eqb, eqb-true}
 use lib.Dec.{eqb}
 use lib.ListN.{length, getD}
 use Rattle.image.specs.Codes.{lookupFrom}
-use Rattle.image.specs.declared.codes.Code.{Code}
-use Rattle.image.specs.declared.codes.Code.the-variants.{Is, Lacking}
+use Rattle.image.specs.declared.Code.{Code}
+use Rattle.image.specs.declared.Code.the-variants.{Is, Lacking}
 
 -- ---- a test at each number below n
 abbrev pub everywhere : (ℕ → Bool) → ℕ → Bool

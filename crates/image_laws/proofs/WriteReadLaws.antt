@@ -12,16 +12,16 @@ use Rattle.image.specs.Groups.{isVP, isVH, isVX}
 use Rattle.image.specs.Codes.{codeValue, lookup, times, pulses, faultTypes, faultCode, inputCode, sources, sourceCode, sourcePrinted, pulls, pullCode, pullPrinted}
 use Rattle.image.specs.Reading.{reservedFrom, usable, printed, inputOf, noLogic, logicOf, outputOf, thresholdOf, groupOf}
 use Rattle.writing.specs.Writing.{beside, flag, groupBytes, hysteresisByte, timingByte, logicByte, pinLogicByte, hasLogic, outputByte}
-use Rattle.image.specs.declared.codes.Code.{Code}
-use Rattle.image.specs.declared.codes.Code.the-variants.{Is, Lacking}
-use Rattle.image.specs.declared.settings.FaultType.the-variants.{Over}
-use Rattle.image.specs.declared.settings.Input.{Input}
-use Rattle.image.specs.declared.settings.Input.the-variants.{VpMid, VpLow, VpUltralow, VhLow, VhHigh, AnalogFault, LogicFault, LogicFaultAnalogWarning, NoFunction}
-use Rattle.image.specs.declared.settings.Source.the-variants.{Disabled}
-use Rattle.image.specs.declared.settings.Pull.the-variants.{Unpulled}
-use Rattle.image.specs.declared.settings.Logic.{Logic}
-use Rattle.image.specs.declared.settings.Output.{Output}
-use Rattle.image.specs.declared.settings.Group.{Group}
+use Rattle.image.specs.declared.Code.{Code}
+use Rattle.image.specs.declared.Code.the-variants.{Is, Lacking}
+use Rattle.image.specs.declared.FaultType.the-variants.{Over}
+use Rattle.image.specs.declared.Input.{Input}
+use Rattle.image.specs.declared.Input.the-variants.{VpMid, VpLow, VpUltralow, VhLow, VhHigh, AnalogFault, LogicFault, LogicFaultAnalogWarning, NoFunction}
+use Rattle.image.specs.declared.Source.the-variants.{Disabled}
+use Rattle.image.specs.declared.Pull.the-variants.{Unpulled}
+use Rattle.image.specs.declared.Logic.{Logic}
+use Rattle.image.specs.declared.Output.{Output}
+use Rattle.image.specs.declared.Group.{Group}
 use Rattle.image_laws.proofs.TableLaws.{never-lacking}
 use Rattle.image_laws.proofs.GroupLaws.{Same, Like, like, same-vp, same-vh, same-vx, inputOf-same, logicOf-same, logicByte-same, reserved-same}
 use Rattle.image_laws.proofs.ByteLaws.{eight, below-byte, below-usable}

@@ -3,11 +3,11 @@ use Prim.Native.Nat.{ℕ}
 use mathlib.Core.Path.{_≡_, refl, ap, ap₂, sym, _∙_}
 use mathlib.Core.Bool.{Bool, true, false, cond}
 use Rattle.machine.specs.Machine.{shares, met, due, exitOf, taken, after, tickAt}
-use Rattle.machine.specs.declared.node.Node.{Node}
-use Rattle.machine.specs.declared.state.State.{State}
-use Rattle.machine.specs.declared.state.Taken.{Taken}
-use Rattle.machine.specs.declared.exits.Exit.{Exit}
-use Rattle.machine.specs.declared.exits.Exit.the-variants.{Stay, Fault, Sequence, Timeout}
+use Rattle.machine.specs.declared.Node.{Node}
+use Rattle.machine.specs.declared.State.{State}
+use Rattle.machine.specs.declared.Taken.{Taken}
+use Rattle.machine.specs.declared.Exit.{Exit}
+use Rattle.machine.specs.declared.Exit.the-variants.{Stay, Fault, Sequence, Timeout}
 
 -- ---- which exit the three tests lead to
 module _ (node : Node) (elapsed word : ℕ) where

@@ -6,8 +6,8 @@ use native.Mathlib.Decide.{ℕ-discrete, decLt}
 use native.Mathlib.Omega.{arith}
 use borrow.Author.Tests.{eq-eqb, ne-eqb, le-leb, lt-leb}
 use Rattle.machine.specs.Machine.{shares, met, due, enter, stay, after, tickOn}
-use Rattle.machine.specs.declared.node.Node.{Node}
-use Rattle.machine.specs.declared.state.State.{State}
+use Rattle.machine.specs.declared.Node.{Node}
+use Rattle.machine.specs.declared.State.{State}
 use Rattle.machine.proofs.ExitLaws.{exit-fault, exit-sequence, exit-timeout, exit-stay}
 
 -- ---- a state by its parts

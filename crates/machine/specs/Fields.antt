@@ -3,7 +3,7 @@ use Prim.Native.Nat.{ℕ, max}
 use mathlib.Core.Bool.{Bool, cond, not, _&&_, _||_}
 use lib.Dec.{ltb, leb, eqb}
 use Rattle.records.specs.Verdicts.{refusedUnless}
-use Rattle.records.specs.declared.verdict.Verdict.{Verdict}
+use Rattle.records.specs.declared.Verdict.{Verdict}
 
 -- ---- ranges: "the rest as in a sheet"
 

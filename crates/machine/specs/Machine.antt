@@ -4,11 +4,11 @@ use mathlib.Core.Bool.{Bool, cond, not, _&&_}
 use lib.Bits.{bitAnd}
 use lib.Dec.{leb, eqb}
 use Rattle.records.specs.Bits.{bits}
-use Rattle.machine.specs.declared.node.Node.{Node}
-use Rattle.machine.specs.declared.exits.Exit.{Exit}
-use Rattle.machine.specs.declared.exits.Exit.the-variants.{Stay, Fault, Sequence, Timeout}
-use Rattle.machine.specs.declared.state.State.{State}
-use Rattle.machine.specs.declared.state.Taken.{Taken}
+use Rattle.machine.specs.declared.Node.{Node}
+use Rattle.machine.specs.declared.Exit.{Exit}
+use Rattle.machine.specs.declared.Exit.the-variants.{Stay, Fault, Sequence, Timeout}
+use Rattle.machine.specs.declared.State.{State}
+use Rattle.machine.specs.declared.Taken.{Taken}
 
 -- ---- which exit
 

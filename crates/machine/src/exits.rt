@@ -1,29 +1,9 @@
 // Which exit a tick takes.
-use crate::node::Node;
+use crate::Exit;
+use crate::Node;
 use bit_fields::word_bit;
 ghost use mathlib.Core.Path.{_≡_};
-ghost use Rattle.machine.specs.Machine.{exitOf, exitNumber, met as Machine·met, due as Machine·due};
-
-// "Exit taken (1 byte: 1 fault, 2 sequence, 3 timeout)", and 0 where none is.
-pub enum Exit {
-    Stay,
-    Fault,
-    Sequence,
-    Timeout,
-}
-
-impl Exit {
-    pub fn number(self) -> u8
-        ensures { λ r. ⌜ r ≡ exitNumber self ⌝ }
-    {
-        match self {
-            Exit::Stay => 0,
-            Exit::Fault => 1,
-            Exit::Sequence => 2,
-            Exit::Timeout => 3,
-        }
-    }
-}
+ghost use Rattle.machine.specs.Machine.{exitOf, met as Machine·met, due as Machine·due};
 
 pub(crate) fn exit_of(node: Node, elapsed: u16, word: u16) -> Exit
     ensures { λ r. ⌜ r ≡ exitOf node elapsed word ⌝ }

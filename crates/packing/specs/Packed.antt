@@ -1,9 +1,9 @@
 -- Answers packed into one number, low bits first, as include/wrackbasket.h explains them. Assumes nothing.
 use Prim.Native.Nat.{ℕ, _+_, _*_, _%_}
-use Rattle.records.specs.declared.verdict.Verdict.{Verdict}
-use Rattle.engine.specs.declared.answer.Ticked.{Ticked}
-use Rattle.detectors.specs.declared.ticks.Detected.{Detected}
-use Rattle.translator.specs.declared.writer.Translation.{Translation}
+use Rattle.records.specs.declared.Verdict.{Verdict}
+use Rattle.engine.specs.declared.Ticked.{Ticked}
+use Rattle.detectors.specs.declared.Detected.{Detected}
+use Rattle.translator.specs.declared.Translation.{Translation}
 
 -- thirty-two bits: number (8), cells (8), place (16)
 unfoldable pub packedParts : Verdict → ℕ → ℕ

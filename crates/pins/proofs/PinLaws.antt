@@ -7,11 +7,11 @@ use borrow.Author.Tests.{eq-eqb, ne-eqb}
 use lib.Dec.{eqb}
 use lib.ListN.{length, getD}
 use Rattle.records.specs.Bits.{bits}
-use Rattle.records.specs.declared.verdict.Verdict.{Verdict}
+use Rattle.records.specs.declared.Verdict.{Verdict}
 use Rattle.records.proofs.ListLaws.{getD-default}
 use Rattle.image.specs.Reading.{groupAt, zeroGroup}
-use Rattle.image.specs.declared.settings.Group.{Group}
-use Rattle.image.specs.declared.settings.Settings.{Settings}
+use Rattle.image.specs.declared.Group.{Group}
+use Rattle.image.specs.declared.Settings.{Settings}
 use Rattle.pins.specs.Pins.{drive, pinsOf, pinsVerdict, driven}
 use Rattle.pins.specs.declared.Driven.{Driven}
 

@@ -7,12 +7,12 @@ use Rattle.records.specs.Bits.{bits}
 use Rattle.records.specs.Words.{wordOf}
 use Rattle.records.specs.Numbers.{bad-word}
 use Rattle.records.specs.Verdicts.{refusedUnless, firstRefusal}
-use Rattle.records.specs.declared.verdict.Verdict.{Verdict}
+use Rattle.records.specs.declared.Verdict.{Verdict}
 use Rattle.image.specs.Reading.{groupAt}
 use Rattle.writing.specs.Writing.{settingsVerdict}
-use Rattle.image.specs.declared.settings.Source.{Source}
-use Rattle.image.specs.declared.settings.Source.the-variants.{Disabled, Engine, DrivenLow, DrivenHigh}
-use Rattle.image.specs.declared.settings.Settings.{Settings}
+use Rattle.image.specs.declared.Source.{Source}
+use Rattle.image.specs.declared.Source.the-variants.{Disabled, Engine, DrivenLow, DrivenHigh}
+use Rattle.image.specs.declared.Settings.{Settings}
 use Rattle.pins.specs.declared.Driven.{Driven}
 
 -- "Source 0 gives 0, source 1 the output's bit, 2 gives 0, 3 gives 1."

@@ -11,13 +11,13 @@ use lib.Seq.{getD-take, getD-drop}
 use Rattle.records.specs.Lists.{each}
 use Rattle.records.specs.Numbers.{wrong-length}
 use Rattle.records.specs.Verdicts.{refused, refusedUnless, orElse, firstRefusal}
-use Rattle.records.specs.declared.verdict.Verdict.{Verdict}
+use Rattle.records.specs.declared.Verdict.{Verdict}
 use Rattle.records.proofs.ListLaws.{getD-default, each-length, each-ext, each-record}
 use Rattle.records.proofs.VerdictLaws.{unless-zero, orElse-pass, orElse-hit, orElse-zero, first-cons, first-records}
 use Rattle.image.specs.Groups.{isVH, isVX, part}
 use Rattle.image.specs.Reading.{reservedFrom, byteVerdict, partVerdict, addressVerdict, imageVerdict, groupOf, zeroGroup, zeroSettings}
-use Rattle.image.specs.declared.settings.Group.{Group}
-use Rattle.image.specs.declared.settings.Settings.{Settings}
+use Rattle.image.specs.declared.Group.{Group}
+use Rattle.image.specs.declared.Settings.{Settings}
 
 -- ---- the lowest reserved bit
 -- every number of the list is below n

@@ -10,9 +10,9 @@ ghost use mathlib.Core.Path.{_≡_};
 ghost use lib.ListN.{getD};
 ghost use Rattle.image.specs.Codes.{times, pulses, faultTypes, sources, pulls};
 ghost use Rattle.image.specs.Reading.{inputOf};
-ghost use Rattle.image.specs.declared.settings.FaultType.the-variants.{Over};
-ghost use Rattle.image.specs.declared.settings.Source.the-variants.{Disabled};
-ghost use Rattle.image.specs.declared.settings.Pull.the-variants.{Unpulled};
+ghost use Rattle.image.specs.declared.FaultType.the-variants.{Over};
+ghost use Rattle.image.specs.declared.Source.the-variants.{Disabled};
+ghost use Rattle.image.specs.declared.Pull.the-variants.{Unpulled};
 
 const FAULT_TYPES: [FaultType; 4] = [
     FaultType::Over,

@@ -9,13 +9,13 @@ use lib.Dec.{eqb}
 use lib.ListN.{length, take, drop}
 use Rattle.records.specs.Numbers.{wrong-length}
 use Rattle.records.specs.Verdicts.{accepted, refused, refusedUnless}
-use Rattle.records.specs.declared.verdict.Verdict.{Verdict}
+use Rattle.records.specs.declared.Verdict.{Verdict}
 use Rattle.records.proofs.VerdictLaws.{numberOf, first-cons, first-last, orElse-hit, orElse-pass}
 use Rattle.image.specs.Reading.{imageVerdict, settingsOf}
-use Rattle.image.specs.declared.settings.Settings.{Settings}
+use Rattle.image.specs.declared.Settings.{Settings}
 use Rattle.detectors.specs.Bank.{startBank}
 use Rattle.detectors.specs.Tick.{refusedOn, engineTicked}
-use Rattle.detectors.specs.declared.ticks.Detected.{Detected}
+use Rattle.detectors.specs.declared.Detected.{Detected}
 use Rattle.recordings.specs.Recordings.{imageThen, detectedAfter, recordingVerdict, recorded}
 
 -- ---- the image's tests, then another length

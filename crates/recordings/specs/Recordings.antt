@@ -6,12 +6,12 @@ use lib.Dec.{eqb}
 use lib.ListN.{length, take, drop}
 use Rattle.records.specs.Numbers.{wrong-length}
 use Rattle.records.specs.Verdicts.{accepted, refusedUnless, firstRefusal}
-use Rattle.records.specs.declared.verdict.Verdict.{Verdict}
+use Rattle.records.specs.declared.Verdict.{Verdict}
 use Rattle.image.specs.Reading.{imageVerdict, settingsOf}
-use Rattle.image.specs.declared.settings.Settings.{Settings}
+use Rattle.image.specs.declared.Settings.{Settings}
 use Rattle.detectors.specs.Bank.{startBank}
 use Rattle.detectors.specs.Tick.{refusedOn, engineTicked}
-use Rattle.detectors.specs.declared.ticks.Detected.{Detected}
+use Rattle.detectors.specs.declared.Detected.{Detected}
 
 -- the image's tests, then the test of another length
 unfoldable pub imageThen : List ℕ → Bool → Verdict

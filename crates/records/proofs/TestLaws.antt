@@ -9,7 +9,7 @@ use borrow.Author.Tests.{ltb-true, lt-ltb, leb-true, le-leb, eqb-true, eq-eqb, n
 use lib.Dec.{ltb, leb, eqb}
 use Rattle.records.specs.Verdicts.{refused, refusedUnless, orElse, firstRefusal}
 use Rattle.records.specs.Lists.{each}
-use Rattle.records.specs.declared.verdict.Verdict.{Verdict}
+use Rattle.records.specs.declared.Verdict.{Verdict}
 use Rattle.records.proofs.Every.{Every, none, _also_}
 use Rattle.records.proofs.VerdictLaws.{orElse-pass, orElse-hit, orElse-zero, numberOf, tests-accepted, accepted-tests, lowest-shows, shows-lowest}
 

@@ -10,7 +10,7 @@ use borrow.Author.Tests.{eq-eqb, ne-eqb}
 use lib.ListN.{getD, List·getD-eq-default}
 use Rattle.records.specs.Verdicts.{accepted, refused, refusedUnless, orElse, firstRefusal}
 use Rattle.records.specs.Lists.{each}
-use Rattle.records.specs.declared.verdict.Verdict.{Verdict}
+use Rattle.records.specs.declared.Verdict.{Verdict}
 use Rattle.records.proofs.ListLaws.{each-next, each-none, each-split, each-at, each-length}
 
 -- ---- one test

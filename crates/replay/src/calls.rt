@@ -30,8 +30,11 @@ pub(crate) fn is_alike(kind: u8, given: &[u8], lent: &mut [u8], expected: &[u8])
     if lent.len() != 0 {
         return false;
     }
-    if kind <= 5 {
+    if kind <= 4 {
         return is_detected(kind, given, expected);
+    }
+    if kind == 5 {
+        return is_driven(given, expected);
     }
     if kind == 13 {
         return is_started(expected);
@@ -58,13 +61,10 @@ fn is_written(settings: Settings, lent: &mut [u8], expected: &[u8], at: usize) -
 }
 
 fn is_detected(kind: u8, given: &[u8], expected: &[u8]) -> bool {
-    let settings = settings_from(given);
-    if kind == 5 {
-        return is_driven(settings, word_at(given, 160), expected);
-    }
     if given.len() < 260 {
         return false;
     }
+    let settings = settings_from(given);
     let bank = bank_from(given);
     let frames = &given[260..];
     if kind == 3 {
@@ -81,8 +81,8 @@ fn is_detection(detected: Detected, expected: &[u8]) -> bool {
         & (expected.len() == 107)
 }
 
-fn is_driven(settings: Settings, outputs: u16, expected: &[u8]) -> bool {
-    let driven = pins::pins(settings, outputs);
+fn is_driven(given: &[u8], expected: &[u8]) -> bool {
+    let driven = pins::pins(settings_from(given), word_at(given, 160));
     is_verdict(driven.verdict, expected, 0)
         & (driven.pins == word_at(expected, 3))
         & (expected.len() == 5)

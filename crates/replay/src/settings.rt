@@ -69,8 +69,8 @@ fn group_from(bytes: &[u8], at: usize) -> Group
         over: threshold_from(bytes, at),
         under: threshold_from(bytes, at + 2),
         delay: word_at(bytes, at + 4),
-        faults: FAULT_TYPES[byte_at(bytes, at + 6) as usize % 4],
-        input: INPUTS[byte_at(bytes, at + 7) as usize % 9],
+        faults: fault_type(byte_at(bytes, at + 6)),
+        input: input(byte_at(bytes, at + 7)),
         logic: logic_from(bytes, at + 8),
         output: output_from(bytes, at + 14),
     }
@@ -100,9 +100,25 @@ fn output_from(bytes: &[u8], at: usize) -> Output
     requires { ⌜ at ≤ 1100 ⌝ }
 {
     Output {
-        source: SOURCES[byte_at(bytes, at) as usize % 4],
-        pull: PULLS[byte_at(bytes, at + 1) as usize % 12],
+        source: source(byte_at(bytes, at)),
+        pull: pull(byte_at(bytes, at + 1)),
     }
+}
+
+fn fault_type(number: u8) -> FaultType {
+    FAULT_TYPES[number as usize % 4]
+}
+
+fn input(number: u8) -> Input {
+    INPUTS[number as usize % 9]
+}
+
+fn source(number: u8) -> Source {
+    SOURCES[number as usize % 4]
+}
+
+fn pull(number: u8) -> Pull {
+    PULLS[number as usize % 12]
 }
 
 // Whether the settings are those of the 160 bytes from `at` on.

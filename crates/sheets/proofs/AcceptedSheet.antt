@@ -17,7 +17,7 @@ use Rattle.machine.proofs.FieldLaws.{outputs-range, mask-range, channel-range, 
 use Rattle.machine.proofs.StandLaws.{Leads, AbsentExits}
 use Rattle.steps.specs.Steps.{stepAt, stepCount, jumpFault, stepFault}
 use Rattle.sheets.specs.Sheets.{isSheet, fieldsVerdict, repeatsVerdict, known, jumpsKnown, unknownVerdict, sheetTests, sheetVerdict, target, nodeAt}
-use Rattle.steps.specs.declared.step.Step.{Step}
+use Rattle.steps.specs.declared.Step.{Step}
 
 -- ---- a step's fields
 

@@ -8,8 +8,8 @@ use Rattle.records.specs.Lists.{each}
 use Rattle.records.specs.Tags.{repeats, lookUp}
 use Rattle.records.specs.Numbers.{wrong-length, out-of-range, repeated-tag, unknown-tag}
 use Rattle.records.specs.Verdicts.{refusedUnless, firstRefusal}
-use Rattle.records.specs.declared.verdict.Verdict.{Verdict}
-use Rattle.machine.specs.declared.node.Node.{Node}
+use Rattle.records.specs.declared.Verdict.{Verdict}
+use Rattle.machine.specs.declared.Node.{Node}
 use Rattle.steps.specs.Steps.{stepAt, stepCount, stepFault}
 
 -- ---- length and fields

@@ -9,14 +9,14 @@ use lib.Dec.{eqb}
 use lib.ListN.{length}
 use Rattle.records.specs.Lists.{copied}
 use Rattle.records.specs.Verdicts.{refusedUnless}
-use Rattle.records.specs.declared.verdict.Verdict.{Verdict}
+use Rattle.records.specs.declared.Verdict.{Verdict}
 use Rattle.records.proofs.ListLaws.{copied-whole}
 use Rattle.machine.specs.Machine.{startState}
-use Rattle.machine.specs.declared.state.State.{State}
+use Rattle.machine.specs.declared.State.{State}
 use Rattle.states.specs.States.{stateFrom, stateBytes, bytesVerdict}
 use Rattle.states.proofs.StateLaws.{eight}
 use Rattle.engine.specs.Engine.{Form, refusedWith, ticked, shownAt}
-use Rattle.engine.specs.declared.answer.Ticked.{Ticked}
+use Rattle.engine.specs.declared.Ticked.{Ticked}
 use Rattle.state_calls.specs.StateCalls.{startVerdict, startWritten, onBytes, tickedOn, shownOn, stateAfter}
 
 -- ---- the start

@@ -6,12 +6,12 @@ use lib.Dec.{eqb}
 use lib.ListN.{length}
 use Rattle.records.specs.Numbers.{wrong-length}
 use Rattle.records.specs.Verdicts.{refusedUnless}
-use Rattle.records.specs.declared.verdict.Verdict.{Verdict}
+use Rattle.records.specs.declared.Verdict.{Verdict}
 use Rattle.machine.specs.Machine.{startState}
-use Rattle.machine.specs.declared.state.State.{State}
+use Rattle.machine.specs.declared.State.{State}
 use Rattle.states.specs.States.{stateFrom, stateBytes, bytesVerdict}
 use Rattle.engine.specs.Engine.{Form, refusedWith, ticked, shownAt}
-use Rattle.engine.specs.declared.answer.Ticked.{Ticked}
+use Rattle.engine.specs.declared.Ticked.{Ticked}
 
 -- "another length is 1 at 0"; the start takes any eight bytes
 unfoldable pub startVerdict : List ℕ → Verdict

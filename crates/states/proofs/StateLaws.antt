@@ -12,7 +12,7 @@ use Rattle.records.proofs.Every.{Bytes, none, _also_}
 use Rattle.records.proofs.ListLaws.{each-elements}
 use Rattle.records.proofs.VerdictLaws.{unless-zero}
 use Rattle.records.proofs.TestLaws.{eq-test, unless-passed, all-pass}
-use Rattle.machine.specs.declared.state.State.{State}
+use Rattle.machine.specs.declared.State.{State}
 use Rattle.machine.proofs.StandLaws.{state-path}
 use Rattle.states.specs.States.{stateFrom, stateBytes, zerosStand, bytesVerdict}
 

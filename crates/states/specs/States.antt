@@ -7,8 +7,8 @@ use lib.ListN.{length, getD}
 use Rattle.records.specs.Words.{wordAt, lowByte, highByte}
 use Rattle.records.specs.Numbers.{wrong-length, unreachable}
 use Rattle.records.specs.Verdicts.{refusedUnless, firstRefusal}
-use Rattle.records.specs.declared.verdict.Verdict.{Verdict}
-use Rattle.machine.specs.declared.state.State.{State}
+use Rattle.records.specs.declared.Verdict.{Verdict}
+use Rattle.machine.specs.declared.State.{State}
 
 -- the state that the bytes hold
 unfoldable pub stateFrom : List ℕ → State

@@ -6,9 +6,9 @@ use lib.Dec.{leb, eqb}
 use lib.ListN.{length, getD}
 use Rattle.records.specs.Words.{wordAt}
 use Rattle.records.specs.Verdicts.{refusedUnless, firstRefusal}
-use Rattle.records.specs.declared.verdict.Verdict.{Verdict}
+use Rattle.records.specs.declared.Verdict.{Verdict}
 use Rattle.machine.specs.Fields.{outputsInRange, maskInRange, channelInRange, levelInRange, levelAllowed, range-fault, jump-without-exit, exit-without-jump, level-without-channel}
-use Rattle.steps.specs.declared.step.Step.{Step}
+use Rattle.steps.specs.declared.Step.{Step}
 
 -- ---- bytes
 

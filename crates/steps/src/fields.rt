@@ -1,5 +1,5 @@
 // The tests of a step's fields: each verdict has the kind of fault as number, and the field's offset in the step as place.
-use crate::step::Step;
+use crate::Step;
 use machine::EXIT_WITHOUT_JUMP;
 use machine::JUMP_WITHOUT_EXIT;
 use machine::LEVEL_WITHOUT_CHANNEL;

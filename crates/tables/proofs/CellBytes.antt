@@ -7,7 +7,7 @@ use native.Mathlib.Omega.{arith}
 use lib.ListN.{length, getD}
 use lib.Seq.{getD-append-add}
 use Rattle.records.specs.Words.{wordAt, lowByte, highByte}
-use Rattle.machine.specs.declared.node.Node.{Node}
+use Rattle.machine.specs.declared.Node.{Node}
 use Rattle.tables.specs.Tables.{cellAt, cellBytes}
 
 -- a word is its two bytes

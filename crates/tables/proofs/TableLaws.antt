@@ -7,8 +7,8 @@ use lib.Dec.{eqb}
 use lib.ListN.{length}
 use Rattle.records.specs.Numbers.{out-of-range}
 use Rattle.records.specs.Verdicts.{accepted, refused, refusedUnless}
-use Rattle.records.specs.declared.verdict.Verdict.{Verdict}
-use Rattle.machine.specs.declared.node.Node.{Node}
+use Rattle.records.specs.declared.Verdict.{Verdict}
+use Rattle.machine.specs.declared.Node.{Node}
 use Rattle.tables.specs.Tables.{cellAt, cellBytes, partVerdict, cellWritten, cellFault, cellCount, fieldsVerdict}
 
 -- ---- the part lent for a cell

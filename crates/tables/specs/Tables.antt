@@ -8,10 +8,10 @@ use Rattle.records.specs.Words.{wordAt, lowByte, highByte}
 use Rattle.records.specs.Lists.{each}
 use Rattle.records.specs.Numbers.{wrong-length, out-of-range, unreachable}
 use Rattle.records.specs.Verdicts.{refusedUnless, firstRefusal}
-use Rattle.records.specs.declared.verdict.Verdict.{Verdict}
+use Rattle.records.specs.declared.Verdict.{Verdict}
 use Rattle.machine.specs.Fields.{outputsInRange, maskInRange, channelInRange, levelInRange, levelAllowed, range-fault, jump-without-exit, level-without-channel}
-use Rattle.machine.specs.declared.node.Node.{Node}
-use Rattle.machine.specs.declared.node.Standing.{Standing}
+use Rattle.machine.specs.declared.Node.{Node}
+use Rattle.machine.specs.declared.Standing.{Standing}
 
 -- ---- bytes
 

@@ -9,11 +9,11 @@ use lib.Dec.{eqb}
 use lib.ListN.{length}
 use Rattle.records.specs.Verdicts.{refusedUnless, orElse, firstRefusal}
 use Rattle.records.specs.Lists.{each}
-use Rattle.records.specs.declared.verdict.Verdict.{Verdict}
+use Rattle.records.specs.declared.Verdict.{Verdict}
 use Rattle.records.proofs.VerdictLaws.{first-cons, orElse-zero, orElse-pass}
 use Rattle.records.proofs.Every.{none, _also_}
 use Rattle.records.proofs.TestLaws.{Whole, whole-test, lt-test, le-test, eq-test, absent-test, unless-passed, unless-passes, all-zero, all-pass, NamesLowest, names-lowest, two-tests}
-use Rattle.machine.specs.declared.node.Node.{Node}
+use Rattle.machine.specs.declared.Node.{Node}
 use Rattle.machine.proofs.FieldLaws.{outputs-range, mask-range, channel-range, level-range, level-allowed}
 use Rattle.machine.proofs.StandLaws.{Leads, AbsentExits}
 use Rattle.tables.specs.Tables.{cellAt, nextFault, cellFault, cellCount, isTable, fieldsVerdict, cellTests, cellVerdict, tableVerdict}

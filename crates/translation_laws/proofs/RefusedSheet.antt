@@ -5,7 +5,7 @@ use mathlib.Core.List.{List}
 use native.Mathlib.Decide.{ℕ-discrete}
 use native.Mathlib.Omega.{arith}
 use Rattle.records.specs.Verdicts.{accepted, refusedUnless, orElse, firstRefusal}
-use Rattle.records.specs.declared.verdict.Verdict.{Verdict}
+use Rattle.records.specs.declared.Verdict.{Verdict}
 use Rattle.records.proofs.VerdictLaws.{orElse-pass}
 use Rattle.records.proofs.TestLaws.{unless-passed, unless-passes, unless-shows, refusal-shows, LowestWithout}
 use Rattle.steps.specs.Steps.{stepAt, stepCount}

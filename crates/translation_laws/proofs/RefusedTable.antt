@@ -6,7 +6,7 @@ use native.Mathlib.Decide.{ℕ-discrete}
 use native.Mathlib.Omega.{arith}
 use Rattle.records.specs.Verdicts.{refusedUnless, firstRefusal}
 use Rattle.records.specs.Lists.{each}
-use Rattle.records.specs.declared.verdict.Verdict.{Verdict}
+use Rattle.records.specs.declared.Verdict.{Verdict}
 use Rattle.records.proofs.VerdictLaws.{orElse-pass}
 use Rattle.records.proofs.TestLaws.{unless-passed, unless-passes, unless-shows, refusal-shows, LowestWithout}
 use Rattle.tables.specs.Tables.{isTable, cellCount, cellAt, fieldsVerdict, tableVerdict}

@@ -5,7 +5,7 @@ use mathlib.Core.List.{List, [], _∷_}
 use Rattle.records.proofs.Every.{Every, none, _also_}
 use Rattle.records.proofs.VerdictLaws.{numberOf}
 use Rattle.machine.specs.Machine.{startState}
-use Rattle.machine.specs.declared.state.State.{State}
+use Rattle.machine.specs.declared.State.{State}
 use Rattle.engine.specs.Engine.{Form, nodesOf, stateVerdict, ticked, shownAt}
 use Rattle.engine.specs.Runs.{ticksFrom, runOf}
 use Rattle.translation_laws.proofs.StateKept.{answered-shown, wholeVerdict, sound, start-accepted, ticks, shows}

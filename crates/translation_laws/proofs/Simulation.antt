@@ -7,8 +7,8 @@ use native.Mathlib.Nat.{add-zero}
 use native.Mathlib.Decide.{ℕ-discrete, decLt}
 use native.Mathlib.Omega.{arith}
 use Rattle.machine.specs.Machine.{shares, met, enter, after, startState, tickOn}
-use Rattle.machine.specs.declared.node.Node.{Node}
-use Rattle.machine.specs.declared.state.State.{State}
+use Rattle.machine.specs.declared.Node.{Node}
+use Rattle.machine.specs.declared.State.{State}
 use Rattle.machine.proofs.StandLaws.{Stands, state-path, after-fault, after-sequence, quiet-rests, quiet-rises, quiet-ends}
 use Rattle.steps.specs.Steps.{stepAt, stepCount}
 use Rattle.sheets.specs.Sheets.{nodeAt}

@@ -6,13 +6,13 @@ use mathlib.Core.Logic.{_↔_}
 use native.Mathlib.Omega.{arith}
 use borrow.Author.Tests.{eq-eqb}
 use Rattle.records.specs.Verdicts.{accepted, firstRefusal}
-use Rattle.records.specs.declared.verdict.Verdict.{Verdict}
+use Rattle.records.specs.declared.Verdict.{Verdict}
 use Rattle.records.proofs.VerdictLaws.{first-accepted}
 use Rattle.records.proofs.Every.{none, _also_}
 use Rattle.records.proofs.TestLaws.{lt-test, unless-passed, unless-passes, all-zero, all-pass}
 use Rattle.machine.specs.Machine.{startState, tickAt, tickOn}
-use Rattle.machine.specs.declared.node.Node.{Node}
-use Rattle.machine.specs.declared.state.State.{State}
+use Rattle.machine.specs.declared.Node.{Node}
+use Rattle.machine.specs.declared.State.{State}
 use Rattle.machine.proofs.FieldLaws.{word-range, elapsed-range}
 use Rattle.machine.proofs.StandLaws.{Leads, Stands, enter-stands, tick-stands}
 use Rattle.tables.specs.Tables.{tableVerdict}
@@ -21,7 +21,7 @@ use Rattle.steps.specs.Steps.{stepCount}
 use Rattle.sheets.specs.Sheets.{sheetVerdict, nodeAt}
 use Rattle.sheets.proofs.AcceptedSheet as sheets
 use Rattle.engine.specs.Engine.{Form, Sheet, Table, nodesOf, countOf, standing, stateTested, stateVerdict, sheetStateVerdict, wordVerdict, shownAs, answeredAt, wentFrom, ticked}
-use Rattle.engine.specs.declared.answer.Ticked.{Ticked}
+use Rattle.engine.specs.declared.Ticked.{Ticked}
 
 -- ---- an answer whose verdict accepts
 

@@ -4,10 +4,10 @@ use mathlib.Core.Path.{_≡_, refl, ap, sym, subst, subst₂, _∙_}
 use mathlib.Core.List.{List, [], _∷_, map}
 use native.Mathlib.Omega.{arith}
 use lib.ListN.{length, take}
-use Rattle.records.specs.declared.verdict.Verdict.{Verdict}
+use Rattle.records.specs.declared.Verdict.{Verdict}
 use Rattle.records.proofs.Every.{Every, none, _also_}
 use Rattle.machine.specs.Machine.{startState, tickOn}
-use Rattle.machine.specs.declared.state.State.{State}
+use Rattle.machine.specs.declared.State.{State}
 use Rattle.machine.proofs.StandLaws.{Stands}
 use Rattle.tables.specs.Tables.{cellAt, tableVerdict}
 use Rattle.steps.specs.Steps.{stepCount}
@@ -15,7 +15,7 @@ use Rattle.sheets.specs.Sheets.{sheetVerdict, nodeAt}
 use Rattle.sheets.proofs.AcceptedSheet.{sheet-accepted}
 use Rattle.engine.specs.Engine.{Form, Sheet, Table, tableStateVerdict, sheetStateVerdict, shownAs, ticked, tableTicked, sheetTicked, shownAt}
 use Rattle.engine.specs.Runs.{ticksFrom, runOf, sheetRun, tableRun}
-use Rattle.engine.specs.declared.answer.Ticked.{Ticked}
+use Rattle.engine.specs.declared.Ticked.{Ticked}
 use Rattle.translator.specs.Translation.{cellTotal, tableOf, translation, translated}
 use Rattle.translation_laws.proofs.Simulation.{tableState, start-follows, tick-follows, outputs-follow, step-follows, state-follows}
 use Rattle.translator.proofs.CutBytes.{table-cell}

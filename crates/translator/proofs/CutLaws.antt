@@ -7,7 +7,7 @@ use borrow.Author.Tests.{eq-eqb, ne-eqb}
 use lib.Dec.{eqb}
 use native.Mathlib.Decide.{ℕ-discrete}
 use native.Mathlib.Omega.{arith}
-use Rattle.machine.specs.declared.node.Node.{Node}
+use Rattle.machine.specs.declared.Node.{Node}
 use Rattle.steps.specs.Steps.{stepAt}
 use Rattle.sheets.specs.Sheets.{nodeAt}
 use Rattle.translator.specs.Cuts.{before}

@@ -8,7 +8,7 @@ use borrow.Author.Tests.{eq-eqb, ne-eqb}
 use lib.Dec.{leb}
 use lib.ListN.{length, drop}
 use Rattle.records.specs.Verdicts.{refusedUnless, firstRefusal}
-use Rattle.records.specs.declared.verdict.Verdict.{Verdict}
+use Rattle.records.specs.declared.Verdict.{Verdict}
 use Rattle.records.proofs.Every.{none, _also_}
 use Rattle.records.proofs.VerdictLaws.{first-append, first-cons, numberOf}
 use Rattle.records.proofs.TestLaws.{le-test, unless-passed, unless-passes, all-zero, all-pass}

@@ -11,7 +11,7 @@ use borrow.Rule.Slice.PartMut.{putMid, same-len-mid}
 use Rattle.records.specs.Lists.{pieces}
 use Rattle.records.proofs.ListLaws.{lent-part}
 use Rattle.records.proofs.PieceLaws.{pieces-more, pieces-length}
-use Rattle.machine.specs.declared.node.Node.{Node}
+use Rattle.machine.specs.declared.Node.{Node}
 use Rattle.tables.specs.Tables.{cellBytes, cellWritten}
 use Rattle.tables.proofs.CellBytes.{cell-length}
 use Rattle.tables.proofs.TableLaws.{part-taken}

@@ -7,12 +7,12 @@ use lib.ListN.{length, drop}
 use Rattle.records.specs.Lists.{pieces}
 use Rattle.records.specs.Numbers.{too-many-cells, no-room}
 use Rattle.records.specs.Verdicts.{refusedUnless, firstRefusal}
-use Rattle.records.specs.declared.verdict.Verdict.{Verdict}
-use Rattle.machine.specs.declared.node.Node.{Node}
+use Rattle.records.specs.declared.Verdict.{Verdict}
+use Rattle.machine.specs.declared.Node.{Node}
 use Rattle.tables.specs.Tables.{cellBytes}
 use Rattle.steps.specs.Steps.{stepCount, stepAt}
 use Rattle.sheets.specs.Sheets.{sheetTests, nodeAt}
-use Rattle.translator.specs.declared.writer.Translation.{Translation}
+use Rattle.translator.specs.declared.Translation.{Translation}
 
 -- ---- how many cells, and where they stand
 

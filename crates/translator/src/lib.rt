@@ -3,5 +3,11 @@ mod cells;
 mod cut;
 mod writer;
 
-pub use writer::Translation;
+use records::Verdict;
 pub use writer::translate;
+
+// How many cells were written, with number 0; or the refusal, with no cell.
+pub struct Translation {
+    pub verdict: Verdict,
+    pub cells: u8,
+}

@@ -1,4 +1,5 @@
 // Every test first; then the cells, each into the part lent for it.
+use crate::Translation;
 use crate::cells::cells_of;
 use crate::cells::first_cell;
 use crate::cut::cut;
@@ -16,12 +17,6 @@ ghost use lib.ListN.{length, take, drop};
 ghost use Rattle.steps.specs.Steps.{stepCount};
 ghost use Rattle.sheets.specs.Sheets.{sheetVerdict};
 ghost use Rattle.translator.specs.Translation.{translationVerdict, translation, translated, tableOf, cellTotal, firstCell, cellsOf, stepBytes};
-
-// How many cells were written, with number 0; or the refusal, with no cell.
-pub struct Translation {
-    pub verdict: Verdict,
-    pub cells: u8,
-}
 
 // Translates a sheet into the lent table. Bytes beyond the cells stay; a refusal leaves every byte.
 pub fn translate(sheet: &[u8], table: &mut [u8]) -> Translation

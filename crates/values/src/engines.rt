@@ -101,3 +101,20 @@ fn tick_sheet(name: &[u8], steps: usize, length: usize, state: State, word: u16)
         print_tick(name, engine::tick_sheet(&sheet[0..length], state, word));
     }
 }
+
+// The state's bytes, their length and then held, before the call's own tests.
+pub(crate) fn try_bytes_order() {
+    tick_bytes(b"tick on bytes, 7 of them:", 7, 1, 1024);
+    tick_bytes(b"tick on bytes, then 8:", 8, 1, 1024);
+    tick_bytes(b"tick on bytes, then held mended:", 8, 0, 1024);
+    tick_bytes(b"tick on bytes, then word 1023:", 8, 0, 1023);
+}
+
+fn tick_bytes(name: &[u8], length: usize, held: u8, word: u16) {
+    let table = nine_steps(MENDED);
+    let mut state = [62, held, 0, 0, 0, 0, 0, 0];
+    if length <= 8 {
+        let ticked = state_calls::tick_table(&table, &mut state[0..length], word);
+        print_tick(name, ticked);
+    }
+}

@@ -16,6 +16,7 @@ fn main() {
     engines::try_words();
     engines::try_table_order();
     engines::try_sheet_order();
+    engines::try_bytes_order();
     detections::try_read_order();
     detections::try_write_order();
     detections::try_tick_order();

@@ -13,14 +13,14 @@ use Rattle.records.specs.Bits.{joined}
 use Rattle.records.proofs.BitLaws.{joined-sum}
 use Rattle.image.specs.Codes.{codeNumber, lookupFrom, lookup, faultCode, sourceCode, pullCode}
 use Rattle.writing.specs.Writing.{beside, flag, codeVerdict}
-use Rattle.image.specs.declared.codes.Code.{Code}
-use Rattle.image.specs.declared.codes.Code.the-variants.{Is, Lacking}
-use Rattle.image.specs.declared.settings.FaultType.{FaultType}
-use Rattle.image.specs.declared.settings.FaultType.the-variants.{Over, UnderOrOver, Under, Off}
-use Rattle.image.specs.declared.settings.Source.{Source}
-use Rattle.image.specs.declared.settings.Source.the-variants.{Disabled, Engine, DrivenLow, DrivenHigh}
-use Rattle.image.specs.declared.settings.Pull.{Pull}
-use Rattle.image.specs.declared.settings.Pull.the-variants.{Unpulled, Vddcap300k, WeakVp1, PushPullVp1, WeakVp2, PushPullVp2, WeakVp3, PushPullVp3, WeakVp4, PushPullVp4, WeakVddcap, PushPullVddcap}
+use Rattle.image.specs.declared.Code.{Code}
+use Rattle.image.specs.declared.Code.the-variants.{Is, Lacking}
+use Rattle.image.specs.declared.FaultType.{FaultType}
+use Rattle.image.specs.declared.FaultType.the-variants.{Over, UnderOrOver, Under, Off}
+use Rattle.image.specs.declared.Source.{Source}
+use Rattle.image.specs.declared.Source.the-variants.{Disabled, Engine, DrivenLow, DrivenHigh}
+use Rattle.image.specs.declared.Pull.{Pull}
+use Rattle.image.specs.declared.Pull.the-variants.{Unpulled, Vddcap300k, WeakVp1, PushPullVp1, WeakVp2, PushPullVp2, WeakVp3, PushPullVp3, WeakVp4, PushPullVp4, WeakVddcap, PushPullVddcap}
 
 -- ---- a loop over a table that returns the first place of a value: what is left gives the whole answer
 module _ (table : List ℕ) (value i : ℕ) where

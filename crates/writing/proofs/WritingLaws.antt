@@ -11,19 +11,19 @@ use Rattle.records.specs.Bits.{joined}
 use Rattle.records.specs.Lists.{each}
 use Rattle.records.specs.Numbers.{wrong-length, out-of-range}
 use Rattle.records.specs.Verdicts.{accepted, refused, refusedUnless, orElse, firstRefusal}
-use Rattle.records.specs.declared.verdict.Verdict.{Verdict}
+use Rattle.records.specs.declared.Verdict.{Verdict}
 use Rattle.records.proofs.BitLaws.{joined-sum}
 use Rattle.records.proofs.ListLaws.{getD-default, each-ext, each-record}
 use Rattle.records.proofs.VerdictLaws.{orElse-pass, orElse-hit, first-cons, first-one, first-accepted, tests-accepted, accepted-tests, lowest-shows, first-records}
 use Rattle.image.specs.Codes.{codeNumber, codeValue, lookup, times, pulses, faultCode, inputCode, sourceCode, pullCode}
 use Rattle.image.specs.Reading.{zeroGroup}
 use Rattle.writing.specs.Writing.{beside, flag, hysteresisByte, timingByte, pinLogicByte, logicByte, outputByte, groupBytes, settingByte, codeVerdict, settingsVerdict, writeVerdict, imageOf, written, groupVerdict, encoded}
-use Rattle.image.specs.declared.codes.Code.{Code}
-use Rattle.image.specs.declared.codes.Code.the-variants.{Is, Lacking}
-use Rattle.image.specs.declared.settings.Group.{Group}
-use Rattle.image.specs.declared.settings.Logic.{Logic}
-use Rattle.image.specs.declared.settings.Output.{Output}
-use Rattle.image.specs.declared.settings.Settings.{Settings}
+use Rattle.image.specs.declared.Code.{Code}
+use Rattle.image.specs.declared.Code.the-variants.{Is, Lacking}
+use Rattle.image.specs.declared.Group.{Group}
+use Rattle.image.specs.declared.Logic.{Logic}
+use Rattle.image.specs.declared.Output.{Output}
+use Rattle.image.specs.declared.Settings.{Settings}
 use Rattle.writing.specs.declared.encoder.Encoded.{Encoded}
 use Rattle.writing.proofs.CodeLaws.{lookup-lt, flag-lt, fault-lt, source-lt, pull-lt, beside-joined, code-passes}
 

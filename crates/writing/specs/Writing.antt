@@ -7,16 +7,16 @@ use lib.ListN.{length, getD, replicate}
 use Rattle.records.specs.Lists.{each}
 use Rattle.records.specs.Numbers.{wrong-length}
 use Rattle.records.specs.Verdicts.{refusedUnless, firstRefusal}
-use Rattle.records.specs.declared.verdict.Verdict.{Verdict}
+use Rattle.records.specs.declared.Verdict.{Verdict}
 use Rattle.image.specs.Groups.{isVX}
 use Rattle.image.specs.Codes.{codeNumber, codeValue, lookup, times, pulses, faultCode, inputCode, sourceCode, pullCode}
 use Rattle.image.specs.Reading.{groupAt}
-use Rattle.image.specs.declared.codes.Code.{Code}
-use Rattle.image.specs.declared.codes.Code.the-variants.{Is, Lacking}
-use Rattle.image.specs.declared.settings.Logic.{Logic}
-use Rattle.image.specs.declared.settings.Group.{Group}
-use Rattle.image.specs.declared.settings.Output.{Output}
-use Rattle.image.specs.declared.settings.Settings.{Settings}
+use Rattle.image.specs.declared.Code.{Code}
+use Rattle.image.specs.declared.Code.the-variants.{Is, Lacking}
+use Rattle.image.specs.declared.Logic.{Logic}
+use Rattle.image.specs.declared.Group.{Group}
+use Rattle.image.specs.declared.Output.{Output}
+use Rattle.image.specs.declared.Settings.{Settings}
 use Rattle.writing.specs.declared.encoder.Encoded.{Encoded}
 
 -- ---- the byte that means a setting

@@ -4,11 +4,11 @@ use mathlib.Core.List.{List}
 use Prim.Native.Nat.{ℕ}
 use denote.Ref.{now}
 use borrow.Author.Needs.{needs}
-use Rattle.records.specs.declared.verdict.Verdict.{Verdict}
+use Rattle.records.specs.declared.Verdict.{Verdict}
 use Rattle.records.proofs.Every.{Bytes}
 use Rattle.image.specs.Reading.{imageVerdict, reading}
-use Rattle.image.specs.declared.reader.Reading.{Reading}
-use Rattle.image.specs.declared.settings.Settings.{Settings}
+use Rattle.image.specs.declared.Reading.{Reading}
+use Rattle.image.specs.declared.Settings.{Settings}
 use Rattle.writing.specs.Writing.{writeVerdict, written}
 use Rattle.packing.specs.Packed.{packedVerdict}
 use Rattle.capi.specs.Calls.{normalVerdict, normalWritten}

@@ -2,7 +2,7 @@
 use mathlib.Core.Path.{ap, _∙_}
 use borrow.Author.Needs.{needs}
 use Rattle.packing.specs.Packed.{packedTranslation}
-use Rattle.translator.specs.declared.writer.Translation.{Translation}
+use Rattle.translator.specs.declared.Translation.{Translation}
 use Rattle.capi.proofs.wrackbasket_translate.Statement.{statement}
 use Rattle.capi.proofs.wrackbasket_translate.Tie as tie
 

@@ -5,10 +5,10 @@ use native.Mathlib.Omega.{arith}
 use lib.Dec.{ltb}
 use borrow.Author.Needs.{needs}
 use Rattle.records.specs.Verdicts.{refusedUnless}
-use Rattle.records.specs.declared.verdict.Verdict.{Verdict}
+use Rattle.records.specs.declared.Verdict.{Verdict}
 use Rattle.records.proofs.VerdictLaws.{first-tested, first-last}
-use Rattle.machine.specs.declared.node.Node.{Node}
-use Rattle.machine.specs.declared.node.Standing.{Standing}
+use Rattle.machine.specs.declared.Node.{Node}
+use Rattle.machine.specs.declared.Standing.{Standing}
 use Rattle.engine.specs.Engine.{standing}
 use Rattle.engine.proofs.step_standing.Statement.{statement}
 use Rattle.engine.proofs.step_standing.Tie as tie

@@ -6,7 +6,7 @@ use native.Mathlib.Omega.{arith}
 use lib.ListN.{length, length-take}
 use borrow.Author.Needs.{needs}
 use Rattle.translator.specs.Translation.{translation}
-use Rattle.translator.specs.declared.writer.Translation.{Translation}
+use Rattle.translator.specs.declared.Translation.{Translation}
 use Rattle.translator.proofs.VerdictLaws.{verdict-accepted, accepted-cells}
 use Rattle.play.proofs.play_sheet.Statement.{statement}
 use Rattle.play.proofs.play_sheet.Tie as tie

@@ -4,10 +4,10 @@ use lib.ListN.{length}
 use Prim.Native.Nat.{_/_}
 use denote.Ref.{now}
 use borrow.Author.Needs.{needs}
-use Rattle.records.specs.declared.verdict.Verdict.{Verdict}
+use Rattle.records.specs.declared.Verdict.{Verdict}
 use Rattle.image.specs.Reading.{imageVerdict, settingsOf, reading}
-use Rattle.image.specs.declared.reader.Reading.{Reading}
-use Rattle.image.specs.declared.settings.Settings.{Settings}
+use Rattle.image.specs.declared.Reading.{Reading}
+use Rattle.image.specs.declared.Settings.{Settings}
 use Rattle.image_laws.proofs.Refusals.{reading-accepted}
 use Rattle.detectors.specs.Bank.{startBank}
 use Rattle.detectors.specs.Tick.{refusedOn}

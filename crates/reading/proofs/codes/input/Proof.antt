@@ -4,7 +4,7 @@ use borrow.Author.Needs.{needs}
 use Rattle.records.proofs.BitLaws.{bits-lt}
 use Rattle.records.proofs.ListLaws.{getD-default}
 use Rattle.image.specs.Codes.{highRanges, functions}
-use Rattle.image.specs.declared.settings.Input.the-variants.{VpMid, VhLow, AnalogFault}
+use Rattle.image.specs.declared.Input.the-variants.{VpMid, VhLow, AnalogFault}
 use Rattle.image.specs.Reading.{inputOf}
 use Rattle.reading.proofs.codes.input.Statement.{statement}
 use Rattle.reading.proofs.codes.input.Tie as tie

@@ -8,7 +8,7 @@ use lib.ListN.{length, drop}
 use Rattle.records.specs.Lists.{each}
 use Rattle.records.proofs.ListLaws.{filled-more, filled-all}
 use Rattle.image.specs.Reading.{groupOf, settingsOf}
-use Rattle.image.specs.declared.settings.Group.{Group}
+use Rattle.image.specs.declared.Group.{Group}
 use Rattle.reading.proofs.ReadingLaws.{groupAt, part-lent, part-length, zero-ten}
 use Rattle.reading.proofs.reader.read_groups.Statement.{statement}
 use Rattle.reading.proofs.reader.read_groups.Tie as tie

@@ -6,10 +6,10 @@ use native.Mathlib.Omega.{arith}
 use denote.Ref.{now}
 use lib.ListN.{length}
 use borrow.Author.Needs.{needs}
-use Rattle.detectors.specs.declared.ticks.Detected.{Detected}
+use Rattle.detectors.specs.declared.Detected.{Detected}
 use Rattle.detectors.specs.Bank.{startBank}
 use Rattle.detectors.specs.Tick.{refusedOn}
-use Rattle.records.specs.declared.verdict.Verdict.{Verdict}
+use Rattle.records.specs.declared.Verdict.{Verdict}
 use Rattle.recordings.specs.Recordings.{startDetected, detectedAfter}
 use Rattle.recordings.proofs.RecordingLaws.{one-more, refusal-stays}
 use Rattle.recordings.proofs.ticks.detect.Statement.{statement}

@@ -3,7 +3,7 @@ use mathlib.Core.Path.{ap, _∙_}
 use denote.Ref.{now}
 use borrow.Author.Needs.{needs}
 use Rattle.sheets.specs.Sheets.{target, nodeAt}
-use Rattle.steps.specs.declared.step.Step.{Step}
+use Rattle.steps.specs.declared.Step.{Step}
 use Rattle.sheets.proofs.node.node_at.Statement.{statement}
 use Rattle.sheets.proofs.node.node_at.Tie as tie
 

@@ -9,7 +9,7 @@ use denote.Ref.{now}
 use borrow.Author.Needs.{needs}
 use borrow.Author.Tests.{eq-eqb, ne-eqb}
 use Rattle.records.specs.Verdicts.{refusedUnless}
-use Rattle.records.specs.declared.verdict.Verdict.{Verdict}
+use Rattle.records.specs.declared.Verdict.{Verdict}
 use Rattle.records.proofs.VerdictLaws.{Searched, searched-none, flag-pass, flag-hit, searched-end}
 use Rattle.steps.specs.Steps.{stepAt, stepFault}
 use Rattle.sheets.specs.Sheets.{fieldsVerdict}

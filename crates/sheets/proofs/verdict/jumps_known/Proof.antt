@@ -4,7 +4,7 @@ use mathlib.Core.Bool.{_&&_}
 use denote.Ref.{now}
 use borrow.Author.Needs.{needs}
 use Rattle.sheets.specs.Sheets.{known, jumpsKnown}
-use Rattle.steps.specs.declared.step.Step.{Step}
+use Rattle.steps.specs.declared.Step.{Step}
 use Rattle.sheets.proofs.verdict.jumps_known.Statement.{statement}
 use Rattle.sheets.proofs.verdict.jumps_known.Tie as tie
 

@@ -6,10 +6,10 @@ use lib.Dec.{eqb}
 use denote.Ref.{now}
 use borrow.Author.Needs.{needs}
 use Rattle.records.specs.Verdicts.{refusedUnless}
-use Rattle.records.specs.declared.verdict.Verdict.{Verdict}
+use Rattle.records.specs.declared.Verdict.{Verdict}
 use Rattle.records.proofs.VerdictLaws.{first-chained, chained, chain-more, unless-accepted}
-use Rattle.machine.specs.declared.node.Node.{Node}
-use Rattle.machine.specs.declared.node.Standing.{Standing}
+use Rattle.machine.specs.declared.Node.{Node}
+use Rattle.machine.specs.declared.Standing.{Standing}
 use Rattle.tables.specs.Tables.{cellAt, cellCount, cellFault, cellTests, cellVerdict, cellStanding, fieldsVerdict}
 use Rattle.tables.proofs.TableLaws.{fields-of}
 use Rattle.tables.proofs.verdict.cell_standing.Statement.{statement}

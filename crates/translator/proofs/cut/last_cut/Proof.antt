@@ -5,7 +5,7 @@ use mathlib.Core.Path.{_≡_, ap, sym, _∙_}
 use native.Mathlib.Omega.{arith}
 use denote.Ref.{now}
 use borrow.Author.Needs.{needs}
-use Rattle.machine.specs.declared.node.Node.{Node}
+use Rattle.machine.specs.declared.Node.{Node}
 use Rattle.machine.proofs.StandLaws.{Leads}
 use Rattle.steps.specs.Steps.{stepAt}
 use Rattle.sheets.specs.Sheets.{nodeAt}
