@@ -8,7 +8,7 @@ use Rattle.records.specs.declared.Verdict.{Verdict}
 use Rattle.image.specs.Reading.{imageVerdict, settingsOf, reading}
 use Rattle.image.specs.declared.Reading.{Reading}
 use Rattle.image.specs.declared.Settings.{Settings}
-use Rattle.image_laws.proofs.Refusals.{reading-accepted}
+use Rattle.image.proofs.SettingsLaws.{settings-read}
 use Rattle.detectors.specs.Bank.{startBank}
 use Rattle.detectors.specs.Tick.{refusedOn}
 use Rattle.recordings.specs.Recordings.{detectedAfter}
@@ -46,7 +46,7 @@ returns-3 c =
     let read = passed .before .before in
     let start = read .before .before .before .args in
     let recording = now (start .recording) in
-    let settings = ap (λ (r : Reading). r .settings) (read .read .ensures ∙ reading-accepted (now (start .image)) (good passed)) in
+    let settings = ap (λ (r : Reading). r .settings) (read .read .ensures) ∙ settings-read (now (start .image)) (good passed) in
     c .detect .ensures
     ∙ ap (λ (s : Settings). detectedAfter s recording (length recording / 220)) settings
     ∙ sym (recorded-whole (now (start .image)) recording (good passed) (whole .if2 .left))
