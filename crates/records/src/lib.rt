@@ -2,6 +2,8 @@
 // words, lists and tags.
 //
 // Every function is total: its definition in specs/ gives a value for every argument of its type.
+#![tactic(auto)]
+
 ghost use Rattle.std.specs.Prelude.{◌≡◌};
 ghost use Rattle.records.specs.Verdicts.{or_else, refused_unless, accepted, refused};
 
@@ -49,6 +51,7 @@ pub fn refused(number: u8, place: usize) -> Verdict
 
 impl Verdict {
     // The verdict so far where it refuses; else the next test: the number at the place unless it holds.
+    #[tactic(auto, unfolding(crate::specs::Verdicts::or_else))]
     pub fn unless(self, holds: bool, number: u8, place: usize) -> Verdict
         ensures { result ≡ or_else self (refused_unless holds number place) }
     {
@@ -62,6 +65,7 @@ impl Verdict {
     }
 
     // The verdict so far where it refuses; else the other.
+    #[tactic(auto, unfolding(crate::specs::Verdicts::or_else))]
     pub fn then(self, other: Verdict) -> Verdict
         ensures { result ≡ or_else self other }
     {
