@@ -1,6 +1,8 @@
 // A byte's fields, taken apart and put together by shifts and masks.
 //
 // Every function is total: its definition in `records` gives a value for every argument of its type.
+#![tactic(auto)]
+
 ghost use Rattle.std.specs.Prelude.{◌≡◌, ◌-◌, ◌^◌, ◌<◌};
 ghost use Rattle.records.specs.Bits.{bits, joined};
 

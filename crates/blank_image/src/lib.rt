@@ -1,4 +1,6 @@
 // The blank image, handed out by value.
+#![tactic(auto)]
+
 ghost use Rattle.std.specs.Prelude.{◌≡◌};
 ghost use Rattle.blank_image.specs.Blank.{blank_image};
 

@@ -2,6 +2,8 @@
 // `include/wrackbasket.h` declares them and explains the bits.
 //
 // None of the calls has a `requires`. A refusal leaves every lent byte.
+#![tactic(auto)]
+
 ghost use Rattle.std.specs.Prelude.{◌≡◌};
 ghost use Rattle.engine.specs.Engine.{sheet_form, table_form};
 ghost use Rattle.translator.specs.Translation.{translation, translated};

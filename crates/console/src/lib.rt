@@ -3,6 +3,8 @@
 //
 // No contract can say which bytes C's read and write move: `receive` promises only that its count
 // lies within the buffer, and `print` only how many bytes it hands on.
+#![tactic(auto)]
+
 ghost use Rattle.std.specs.Prelude.{◌≡◌, length};
 ghost use Rattle.io.specs.Counts.{IsPrefixLen};
 ghost use Rattle.text.specs.Text.{written};
@@ -12,7 +14,7 @@ use libc::{STDIN_FILENO, STDOUT_FILENO};
 use text::Line;
 
 // How many bytes came, at the start of the buffer; none where a read failed.
-#[derive(Drop)]
+#[derive(Clone, Copy)]
 pub struct Received {
     pub count: usize,
     pub failed: bool,

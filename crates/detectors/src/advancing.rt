@@ -12,7 +12,7 @@ use records::{UNREACHABLE, Verdict, accepted, refused};
 use words::bit;
 
 // The bank after a run of frames, and the words of the last.
-#[derive(Drop)]
+#[derive(Clone, Copy)]
 pub(crate) struct Advanced {
     pub bank: Bank,
     pub faults: u16,

@@ -3,6 +3,8 @@
 //
 // `start`, `tick` and `engine_tick` are the calls. None has a `requires`. A refusal gives back the
 // bank it received, and zero words.
+#![tactic(auto)]
+
 mod advancing;
 mod ticks;
 
@@ -12,14 +14,14 @@ use records::Verdict;
 pub use ticks::{engine_tick, tick};
 
 // Ten channels, taken and returned by value.
-#[derive(Drop)]
+#[derive(Clone, Copy)]
 pub struct Bank {
     pub channels: [Channel; 10],
 }
 
 // The bank after the call and the words, with number 0; or the refusal, with the bank as received
 // and zero words.
-#[derive(Drop)]
+#[derive(Clone, Copy)]
 pub struct Detected {
     pub verdict: Verdict,
     pub bank: Bank,

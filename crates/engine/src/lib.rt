@@ -3,6 +3,8 @@
 // None of the calls has a `requires`. A refusal gives back the state it received, with zero outputs
 // and step 0. On a sheet all its own tests are made, without cells and room. On a table only the cell
 // at which the engine stands is tested; an entered cell is tested when a later tick meets it.
+#![tactic(auto)]
+
 mod ticking;
 
 ghost use Rattle.std.specs.Prelude.{◌≡◌};
@@ -18,7 +20,7 @@ use ticking::{answer, go, state_verdict};
 
 // The state after the tick, with the outputs and the step that show there; or the refusal, with the
 // state as received.
-#[derive(Drop)]
+#[derive(Clone, Copy)]
 pub struct Ticked {
     pub verdict: Verdict,
     pub state: State,

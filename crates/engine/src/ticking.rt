@@ -7,7 +7,7 @@ use machine::{Exit, Node, State, Taken};
 use records::{BAD_WORD, UNREACHABLE, Verdict, accepted};
 
 // Where a tick leads; a refusal takes no exit, and stays.
-#[derive(Drop)]
+#[derive(Clone, Copy)]
 pub(crate) struct Went {
     pub(crate) verdict: Verdict,
     pub(crate) taken: Taken,

@@ -1,16 +1,18 @@
 // The configuration image: its settings, the codes that have a table of their own, and, in specs/, what
 // eighty bytes mean. `reading` has the reader, and `writing` the way back.
+#![tactic(auto)]
+
 use records::Verdict;
 
 // The settings that an image means. One struct serves all ten groups, so that a setting that no
 // byte of its group can mean exists, and is refused. Delays and pulses are in µs. The variant of
 // code 0 stands first in each enum.
-#[derive(Drop)]
+#[derive(Clone, Copy)]
 pub struct Settings {
     pub groups: [Group; 10],
 }
 
-#[derive(Drop)]
+#[derive(Clone, Copy)]
 pub struct Group {
     pub over: Threshold,
     pub under: Threshold,
@@ -21,13 +23,13 @@ pub struct Group {
     pub output: Output,
 }
 
-#[derive(Drop)]
+#[derive(Clone, Copy)]
 pub struct Threshold {
     pub level: u8,
     pub hysteresis: u8,
 }
 
-#[derive(Drop)]
+#[derive(Clone, Copy)]
 pub enum FaultType {
     Over,
     UnderOrOver,
@@ -36,7 +38,7 @@ pub enum FaultType {
 }
 
 // What byte 5 means: a range of VP or of VH, or a function of VX.
-#[derive(Drop)]
+#[derive(Clone, Copy)]
 pub enum Input {
     VpMid,
     VpLow,
@@ -49,7 +51,7 @@ pub enum Input {
     NoFunction,
 }
 
-#[derive(Drop)]
+#[derive(Clone, Copy)]
 pub struct Logic {
     pub invert: bool,
     pub edge: bool,
@@ -57,13 +59,13 @@ pub struct Logic {
     pub delay: u16,
 }
 
-#[derive(Drop)]
+#[derive(Clone, Copy)]
 pub struct Output {
     pub source: Source,
     pub pull: Pull,
 }
 
-#[derive(Drop)]
+#[derive(Clone, Copy)]
 pub enum Source {
     Disabled,
     Engine,
@@ -71,7 +73,7 @@ pub enum Source {
     DrivenHigh,
 }
 
-#[derive(Drop)]
+#[derive(Clone, Copy)]
 pub enum Pull {
     Unpulled,
     Vddcap300k,
@@ -88,7 +90,7 @@ pub enum Pull {
 }
 
 // What a look-up answers: the lowest code, or that no code has the meaning.
-#[derive(Drop)]
+#[derive(Clone, Copy)]
 pub enum Code {
     Is(u8),
     Lacking,
@@ -99,7 +101,7 @@ pub const TIMES: [u16; 8] = [0, 5, 10, 20, 30, 50, 75, 100];
 pub const PULSES: [u16; 4] = [10, 100, 1000, 10000];
 
 // What the reader answers: the settings of an accepted image; or the refusal, with the zero settings.
-#[derive(Drop)]
+#[derive(Clone, Copy)]
 pub struct Reading {
     pub verdict: Verdict,
     pub settings: Settings,

@@ -5,6 +5,8 @@
 //
 // with outputs and mask as four hexadecimal digits. What the translator refuses prints
 // `refused NUMBER PLACE`.
+#![tactic(auto)]
+
 use console::print;
 use machine::Node;
 use text::Line;

@@ -1,6 +1,8 @@
 // The one machine that sheets and tables both are: nodes, which exit a tick takes, and taking it.
 //
 // Every function is total: its definition in specs/ gives a value for every argument of its type.
+#![tactic(auto)]
+
 mod exits;
 mod moving;
 
@@ -20,7 +22,7 @@ pub const EXIT_WITHOUT_JUMP: u8 = 14;
 pub const LEVEL_WITHOUT_CHANNEL: u8 = 15;
 
 // A step or a cell, its exits leading to the numbers of other steps or cells.
-#[derive(Drop)]
+#[derive(Clone, Copy)]
 pub struct Node {
     pub outputs: u16,
     pub mask: u16,
@@ -34,14 +36,14 @@ pub struct Node {
 }
 
 // A node, and the verdict on standing at it.
-#[derive(Drop)]
+#[derive(Clone, Copy)]
 pub struct Standing {
     pub verdict: Verdict,
     pub node: Node,
 }
 
 // "Exit taken (1 byte: 1 fault, 2 sequence, 3 timeout)", and 0 where none is.
-#[derive(Drop)]
+#[derive(Clone, Copy)]
 pub enum Exit {
     Stay,
     Fault,
@@ -63,14 +65,14 @@ impl Exit {
 }
 
 // The number of the step or cell, and the ticks since it was entered.
-#[derive(Drop)]
+#[derive(Clone, Copy)]
 pub struct State {
     pub at: u8,
     pub elapsed: u16,
 }
 
 // The exit that a tick takes, and the state after it.
-#[derive(Drop)]
+#[derive(Clone, Copy)]
 pub struct Taken {
     pub exit: Exit,
     pub state: State,

@@ -1,6 +1,8 @@
 // Answers packed into one number, as include/wrackbasket.h explains its bits.
 //
 // Every function is total: its definition in specs/ gives a value for every argument of its type.
+#![tactic(auto)]
+
 ghost use Rattle.std.specs.Prelude.{◌≡◌};
 ghost use Rattle.packing.specs.Packed.{packed_parts, packed_tick, packed_words};
 

@@ -1,4 +1,6 @@
 // The pin drives: which of PDO1 to PDO10 are driven high, from settings and the outputs.
+#![tactic(auto)]
+
 ghost use Rattle.std.specs.Prelude.{◌≡◌};
 ghost use Rattle.pins.specs.Pins.{driven, pins_of};
 ghost use Rattle.pins.specs.Pins.{drive};
@@ -9,7 +11,7 @@ use records::{BAD_WORD, Verdict};
 use words::bit;
 
 // The word of pins, with number 0; or the refusal, with no pin.
-#[derive(Drop)]
+#[derive(Clone, Copy)]
 pub struct Driven {
     pub verdict: Verdict,
     pub pins: u16,

@@ -6,7 +6,7 @@ use records::{Verdict, accepted};
 
 // What the detectors, the engine and the pins answer; or the first refusal of the three, with nothing
 // asked of those behind it.
-#[derive(Drop)]
+#[derive(Clone, Copy)]
 pub(crate) struct Board {
     pub verdict: Verdict,
     pub detected: Detected,

@@ -9,6 +9,8 @@
 // with a line for each tick, everything as it stands after it, and words as four hexadecimal digits.
 // A refusal prints `refused image NUMBER PLACE`, or `sheet` or `ticks` for `image`, and ends the run.
 // A part that is cut short, or in which a read fails, is refused as 1 0.
+#![tactic(auto)]
+
 mod board;
 
 ghost use Rattle.std.specs.Prelude.{◌≤◌};

@@ -2,6 +2,8 @@
 //
 // `read` is the call. It has no `requires`, and its promise gives the whole answer by a definition of
 // `image`.
+#![tactic(auto)]
+
 mod codes;
 mod reader;
 mod zero;

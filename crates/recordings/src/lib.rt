@@ -1,6 +1,8 @@
 // The detectors over a recording: an image, and whole engine ticks of 220 bytes.
 //
 // The call has no `requires`. A refusal has no words.
+#![tactic(auto)]
+
 mod ticks;
 
 ghost use Rattle.std.specs.Prelude.{◌≡◌};

@@ -31,7 +31,7 @@ pub const BAD_WORD: u8 = 9;
 pub const NO_ROOM: u8 = 10;
 
 // A number of the paper's list with its place; tests are joined in their order.
-#[derive(Drop)]
+#[derive(Clone, Copy)]
 pub struct Verdict {
     pub number: u8,
     pub place: usize,

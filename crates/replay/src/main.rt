@@ -1,6 +1,8 @@
 // Calls the library on each case of a stream, and compares every answer and every lent byte.
 //
 // docs/CASES.md has the stream's format and what is printed.
+#![tactic(auto)]
+
 mod bank;
 mod calls;
 mod for_c;
@@ -17,7 +19,7 @@ use words::word_at;
 const LONGEST: usize = 4096;
 
 // What came of the stream's next case: alike or not; no case, at the end; or a case cut short.
-#[derive(Drop)]
+#[derive(Clone, Copy)]
 struct Outcome {
     kind: u8,
     alike: bool,

@@ -5,6 +5,8 @@
 //
 // all in one line, with times in µs and the group's normal bytes in hexadecimal. What the library
 // refuses prints `refused NUMBER PLACE`.
+#![tactic(auto)]
+
 mod names;
 
 use console::print;

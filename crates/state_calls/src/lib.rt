@@ -2,6 +2,8 @@
 //
 // None of the calls has a `requires`. The bytes are tested before the call's own tests; a refusal leaves
 // them, and shows no outputs and step 0.
+#![tactic(auto)]
+
 mod on_bytes;
 
 ghost use Rattle.std.specs.Prelude.{◌≡◌};

@@ -2,6 +2,8 @@
 // elapsed (2), ticks (2), two zero bytes. Held and ticks are 0.
 //
 // Every function is total: its definition in specs/ gives a value for every argument of its type.
+#![tactic(auto)]
+
 ghost use Rattle.std.specs.Prelude.{◌≡◌};
 ghost use Rattle.states.specs.States.{state_from, state_bytes, bytes_verdict};
 

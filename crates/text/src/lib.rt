@@ -2,12 +2,14 @@
 // is left to the program.
 //
 // Every function is total. A line holds 256 bytes: what does not fit is left out.
+#![tactic(auto)]
+
 ghost use Rattle.std.specs.Prelude.{min, ◌∷◌, ◌≡◌, length};
 ghost use Rattle.io.specs.Counts.{IsPrefixLen};
 ghost use Rattle.text.specs.Text.{empty_line, appended, written, decimal_text, hex_text};
 
 // The first `length` bytes, and all of them where that is more, stand in the line.
-#[derive(Drop)]
+#[derive(Clone, Copy)]
 pub struct Line {
     pub bytes: [u8; 256],
     pub length: usize,

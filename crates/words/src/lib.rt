@@ -1,6 +1,8 @@
 // Words of two bytes, single bits of a word, and copies of bytes.
 //
 // Every function is total: its definition in `records` gives a value for every argument of its type.
+#![tactic(auto)]
+
 mod copying;
 mod word;
 

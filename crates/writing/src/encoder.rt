@@ -10,7 +10,7 @@ use image::{Code, Group, Logic, Output};
 use records::{OUT_OF_RANGE, Verdict, accepted, refused};
 
 // The eight bytes of a group that is accepted; or the refusal, with eight zeros.
-#[derive(Drop)]
+#[derive(Clone, Copy)]
 pub(crate) struct Encoded {
     pub verdict: Verdict,
     pub bytes: [u8; 8],

@@ -2,6 +2,8 @@
 //
 // `write` and `settings_verdict` are the calls. None has a `requires`, and each promise
 // gives the whole answer and every byte of the lent buffer by a definition of specs/.
+#![tactic(auto)]
+
 mod codes;
 mod encoder;
 mod writer;
