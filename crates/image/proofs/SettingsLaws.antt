@@ -13,7 +13,7 @@ use Rattle.image.specs.contracts.Settings.{the_type}
 
 -- what owning settings tells of their array
 pub ten_groups : (settings : Settings) (values : List Val) → Owned (row the_type) settings values → length settings.groups ≡ 10
-ten_groups settings values owned = simp length-map at owned.1.1.0.1.0.1
+ten_groups settings values owned = owned.1.1.0.1.0.1
 
 -- an accepted image is answered with its settings
 pub settings_read : (image : List ℕ) → (image_verdict image).number ≡ 0 → (reading image).settings ≡ settings_of image

@@ -7,25 +7,20 @@ use borrow.Author.Tests.{eq-eqb, ne_eqb, leb-false}
 use lib.Dec.{leb}
 use Rattle.machine.specs.declared.Node.{Node}
 use Rattle.machine.specs.Machine.{due, stay}
-use Rattle.machine.proofs.moving.stay.Statement.{statement}
-use Rattle.machine.proofs.moving.stay.Tie as tie
+use Rattle.machine.proofs.moving.stay.Goals as goal
 
 below : (node : Node) (elapsed : ℕ) → (node.timeout ≡ 0 → ⊥) → due node elapsed ≡ false → elapsed + 1 < node.timeout
 unfolding due
 below node elapsed present early = leb-false node.timeout (elapsed + 1) (rw (ne_eqb node.timeout 0 present) at early)
 
-add-elapsed : tie.Need-overflow-add-elapsed
-add-elapsed c =
-    let s = c.before.before.before in
-    omega (arith, below s.args.node s.args.state.elapsed c.before.if1.false s.requires, c.before.before.struct_known.given)
+pub overflow_add-elapsed : goal.overflow_add-elapsed
+overflow_add-elapsed c =
+    omega (arith, below c.args.node c.args.state.elapsed c.if-node-eq0.false c.requires, c.struct_known-1.given)
 
-returns : tie.Need-returns
+pub returns-then-node-eq0 : goal.returns-then-node-eq0
 unfolding stay
-returns c = rw (eq-eqb c.before.before.args.node.timeout 0 c.if1.true)
+returns-then-node-eq0 c = rw (eq-eqb c.args.node.timeout 0 c.if-node-eq0.true)
 
-returns-2 : tie.Need-returns-2
+pub returns-else-node-eq0 : goal.returns-else-node-eq0
 unfolding stay
-returns-2 c = rw (ne_eqb c.before.before.before.args.node.timeout 0 c.before.if1.false)
-
-pub stay-spec : {M : Type 1} → statement M
-stay-spec = tie.close (tie.spec add-elapsed returns returns-2)
+returns-else-node-eq0 c = rw (ne_eqb c.args.node.timeout 0 c.if-node-eq0.false)

@@ -8,8 +8,7 @@ use lib.Dec.{leb}
 use borrow.Author.Rules.{rules}
 use borrow.Author.Tests.{eq-eqb, ne_eqb, le-leb, lt-leb}
 use Rattle.machine.specs.Machine.{due}
-use Rattle.machine.proofs.exits.due.Statement.{statement}
-use Rattle.machine.proofs.exits.due.Tie as tie
+use Rattle.machine.proofs.exits.due.Goals as goal
 
 reached : (timeout elapsed : ℕ) → (timeout ≡ 0 → ⊥) → leb (timeout - 1) elapsed ≡ leb timeout (elapsed + 1)
 reached timeout elapsed present =
@@ -18,15 +17,12 @@ reached timeout elapsed present =
       | no h ↦ lt-leb (timeout - 1) elapsed (omega arith) ∙ sym (lt-leb timeout (elapsed + 1) (omega arith))
     ]
 
-returns : tie.Need-returns
+pub returns-then-node-eq0 : goal.returns-then-node-eq0
 unfolding due
-returns c = rw (eq-eqb c.before.before.args.node.timeout 0 c.if1.true)
+returns-then-node-eq0 c = rw (eq-eqb c.args.node.timeout 0 c.if-node-eq0.true)
 
-returns-2 : tie.Need-returns-2
+pub returns : goal.returns
 unfolding due
-returns-2 c =
-    let a = c.before.before.before.args in
-    rw (ne_eqb a.node.timeout 0 c.before.if1.false) (reached a.node.timeout a.elapsed c.before.if1.false)
-
-pub due-spec : {M : Type 1} → statement M
-due-spec = tie.close (tie.spec returns (λ c. search rules) returns-2)
+returns c =
+    let a = c.args in
+    rw (ne_eqb a.node.timeout 0 c.if-node-eq0.false) (reached a.node.timeout a.elapsed c.if-node-eq0.false)
