@@ -16,7 +16,7 @@ import sys
 # What a name is made of in antt: everything but spaces, brackets and punctuation. A projection's dot ends a name.
 NAME = re.compile(r"[^\s(){}\[\],;.:=λ]+")
 TOP = re.compile(r"^(?:(?:abbrev|unfoldable|pub)\s+)*([^\s:(){}=,]+)(?:\s*\{[^}]*\})?\s*:(?!:)")
-FIELD = re.compile(r"^\s+(?:pub\s+)?([^\s:(){}=,]+)\s*:(?!:)")
+FIELD = re.compile(r"^\s+(?:(?:abbrev|unfoldable|pub)\s+)*([^\s:(){}=,]+)\s*:(?!:)")
 CAPITAL = {"Sheet": "sheet_form", "Table": "table_form", "on-bytes": "bytes_laws"}
 # port.py spelled these two lemmas before their definitions, which keep the plain name.
 SPELLED = {"node_at": "node_at_lem", "step_count": "step_count_lem"}
@@ -47,7 +47,7 @@ def defined():
         inside = False
         for line in open(path, encoding="utf-8"):
             line = re.sub(r"--.*", "", line.rstrip())
-            if re.match(r"^(pub\s+)?(record|data)\s", line):
+            if re.match(r"^\s*(pub\s+)?(record|data|module)\s", line):
                 inside = True
                 continue
             if line and not line[0].isspace():
@@ -58,7 +58,7 @@ def defined():
             if re.match(r"^(use|pub use|mod|pub mod|open|unfolding)\b", line):
                 continue
             match = FIELD.match(line) if inside else TOP.match(line)
-            if not match or re.search(r"\btie\.|\bstatement\b", line):
+            if not match or re.search(r"\b(tie|goal)\.|\bstatement\b", line):
                 continue
             found.setdefault(match[1], set()).add("specs" if "/specs/" in path else "proofs")
     return found
@@ -68,12 +68,12 @@ def names():
     found = defined()
     taken = {snake(n) for n, where in found.items() if "specs" in where and not n[0].isupper()}
     turned = {}
-    for name in sorted(found, key=lambda n: ("specs" not in found[n], n)):
+    for name in sorted(found, key=lambda n: ("specs" not in found[n], "-" in n, n)):
         if not odd(name):
             continue
         new = snake(name)
         lemma = "specs" not in found[name]
-        if (lemma and new in taken) or (new in found and new not in SPELLED):
+        if (lemma and new in taken) or (new in found and new not in SPELLED) or new in turned.values():
             new += "_lem"
         turned[name] = new
     turned.update(CAPITAL)
@@ -122,7 +122,7 @@ def main():
     lines = 0
     for path in [*files(".antt"), *files(".rt")]:
         text = open(path, encoding="utf-8").read()
-        mine = turned | SPELLED if path == SPELLED_IN else turned
+        mine = turned | SPELLED if path == SPELLED_IN and "nodeAt" in text else turned
         new = (turn if path.endswith(".antt") else turn_rt)(text, mine)
         # A name of another library under one of ours, or two names of one file that fall together.
         for use in re.finditer(r"^(?:pub )?use (?!Rattle\.(?!std\b))([^{\n]*)\{([^}]*)\}", text, re.M):

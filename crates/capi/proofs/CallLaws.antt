@@ -15,33 +15,33 @@ use Rattle.writing.specs.Writing.{write_verdict, written}
 use Rattle.image_laws.proofs.Refusals.{written_refused}
 use Rattle.image_laws.proofs.Acceptance.{write_wrong_length}
 use Rattle.image_laws.proofs.RoundTrip.{read_then_write}
-use Rattle.recordings.proofs.RecordingLaws.{then-image, then-right, then-wrong}
+use Rattle.recordings.proofs.RecordingLaws.{then_image, then_right, then_wrong}
 use Rattle.capi.specs.Calls.{normal_verdict, normal_written}
 
 module _ (image buffer : List ℕ) where
-  pub normal-refused : ¬ ((image_verdict image).number ≡ 0) → normal_verdict image buffer ≡ image_verdict image
+  pub normal_refused : ¬ ((image_verdict image).number ≡ 0) → normal_verdict image buffer ≡ image_verdict image
   unfolding normal_verdict
-  normal-refused = then-image image (eqb (length buffer) 80)
+  normal_refused = then_image image (eqb (length buffer) 80)
 
-  pub normal-kept : ¬ ((normal_verdict image buffer).number ≡ 0) → normal_written image buffer ≡ buffer
+  pub normal_kept : ¬ ((normal_verdict image buffer).number ≡ 0) → normal_written image buffer ≡ buffer
   unfolding normal_written
-  normal-kept bad = rw (ne_eqb (normal_verdict image buffer).number 0 bad)
+  normal_kept bad = rw (ne_eqb (normal_verdict image buffer).number 0 bad)
 
   module _ (bytes : Bytes image) (good : (image_verdict image).number ≡ 0) where
     -- what the writer answers and leaves
-    pub normal-taken : (normal_verdict image buffer ≡ write_verdict (reading image).settings buffer)
+    pub normal_taken : (normal_verdict image buffer ≡ write_verdict (reading image).settings buffer)
         × (normal_written image buffer ≡ written (reading image).settings buffer)
     unfolding normal_written normal_verdict
-    normal-taken =
+    normal_taken =
         elim (ℕ_discrete (length buffer) 80) [
           | yes eighty ↦
               let taken = read_then_write image bytes good buffer eighty in
-              let passes : normal_verdict image buffer ≡ accepted = then-right image good (length buffer) 80 eighty in
+              let passes : normal_verdict image buffer ≡ accepted = then_right image good (length buffer) 80 eighty in
               (passes ∙ sym taken.0, rw (eq-eqb (normal_verdict image buffer).number 0 (ap number_of passes)) (sym taken.1))
           | no other ↦
               let settings = (reading image).settings in
               let wrong = write_wrong_length settings buffer other in
-              let shows : normal_verdict image buffer ≡ write_verdict settings buffer = then-wrong image good (length buffer) 80 other ∙ sym wrong in
+              let shows : normal_verdict image buffer ≡ write_verdict settings buffer = then_wrong image good (length buffer) 80 other ∙ sym wrong in
               let refused : ¬ ((write_verdict settings buffer).number ≡ 0) = λ zero. omega (arith, sym (ap number_of wrong) ∙ zero) in
-              (shows, normal-kept (λ zero. refused (sym (ap number_of shows) ∙ zero)) ∙ sym (written_refused settings buffer refused))
+              (shows, normal_kept (λ zero. refused (sym (ap number_of shows) ∙ zero)) ∙ sym (written_refused settings buffer refused))
         ]

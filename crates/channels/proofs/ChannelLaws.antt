@@ -9,18 +9,18 @@ use Rattle.channels.specs.declared.Filter.{Filter}
 
 -- ---- on edge, and on level
 module _ (logic : Logic) (before after : Filter) (left : ℕ) where
-  pub left-on-edge : logic.edge ≡ true → left_after logic before after left ≡ pulse_now logic before after left - 1
+  pub left_on_edge : logic.edge ≡ true → left_after logic before after left ≡ pulse_now logic before after left - 1
   unfolding left_after
-  left-on-edge h = ap (λ (edge : Bool). cond edge (pulse_now logic before after left - 1) 0) h
+  left_on_edge h = ap (λ (edge : Bool). cond edge (pulse_now logic before after left - 1) 0) h
 
-  pub left-on-level : logic.edge ≡ false → left_after logic before after left ≡ 0
+  pub left_on_level : logic.edge ≡ false → left_after logic before after left ≡ 0
   unfolding left_after
-  left-on-level h = ap (λ (edge : Bool). cond edge (pulse_now logic before after left - 1) 0) h
+  left_on_level h = ap (λ (edge : Bool). cond edge (pulse_now logic before after left - 1) 0) h
 
-  pub fault-on-edge : logic.edge ≡ true → logic_fault logic before after left ≡ ltb 0 (pulse_now logic before after left)
+  pub fault_on_edge : logic.edge ≡ true → logic_fault logic before after left ≡ ltb 0 (pulse_now logic before after left)
   unfolding logic_fault
-  fault-on-edge h = ap (λ (edge : Bool). cond edge (ltb 0 (pulse_now logic before after left)) after.filtered) h
+  fault_on_edge h = ap (λ (edge : Bool). cond edge (ltb 0 (pulse_now logic before after left)) after.filtered) h
 
-  pub fault-on-level : logic.edge ≡ false → logic_fault logic before after left ≡ after.filtered
+  pub fault_on_level : logic.edge ≡ false → logic_fault logic before after left ≡ after.filtered
   unfolding logic_fault
-  fault-on-level h = ap (λ (edge : Bool). cond edge (ltb 0 (pulse_now logic before after left)) after.filtered) h
+  fault_on_level h = ap (λ (edge : Bool). cond edge (ltb 0 (pulse_now logic before after left)) after.filtered) h

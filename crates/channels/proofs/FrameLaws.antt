@@ -16,14 +16,14 @@ use Rattle.channels.specs.declared.Sample.{Sample}
 -- ---- the bytes of frame i
 module _ (frames : List ℕ) (i at : ℕ) where
   -- none past the eleventh
-  pub past-frame : 11 ≤ at → 0 ≡ get_or (frame_at frames i) at 0
+  pub past_frame : 11 ≤ at → 0 ≡ get_or (frame_at frames i) at 0
   unfolding frame_at
-  past-frame h = sym (get_or-eq_default (take 11 (drop (11 * i) frames)) 0 (rw length-take (omega arith)))
+  past_frame h = sym (get_or-eq_default (take 11 (drop (11 * i) frames)) 0 (rw length-take (omega arith)))
 
   -- none past the end of the frames
-  pub past-frames : length frames < 11 * i → 0 ≡ get_or (frame_at frames i) at 0
+  pub past_frames : length frames < 11 * i → 0 ≡ get_or (frame_at frames i) at 0
   unfolding frame_at
-  past-frames h = sym (get_or-eq_default (take 11 (drop (11 * i) frames)) 0 (rw (length-take, length-drop) (omega arith)))
+  past_frames h = sym (get_or-eq_default (take 11 (drop (11 * i) frames)) 0 (rw (length-take, length-drop) (omega arith)))
 
   -- else those of what is lent from its first on
   pub in_frame : at < 11 → get_or (take (length frames - 11 * i) (drop (11 * i) frames)) at 0 ≡ get_or (frame_at frames i) at 0
@@ -34,11 +34,11 @@ module _ (frames : List ℕ) (i at : ℕ) where
 
 -- ---- one frame more, as a loop takes it
 module _ (group : Group) (frames : List ℕ) (k : ℕ) (channel : Channel) where
-  pub over-more : (i : ℕ) (sample : Sample) (before after : Channel)
+  pub over_more : (i : ℕ) (sample : Sample) (before after : Channel)
       → sample ≡ sample_at group.input (frame_at frames i) k
       → before ≡ channel_over group frames k channel i
       → after ≡ channel_after group sample before
       → after ≡ channel_over group frames k channel (i + 1)
   unfolding channel_over
-  over-more i sample before after pins reached step =
+  over_more i sample before after pins reached step =
       step ∙ ap₂ (channel_after group) pins reached ∙ ap (channel_over group frames k channel) (sym (add-one i))

@@ -17,9 +17,9 @@ use Rattle.engine.specs.declared.Ticked.{Ticked}
 use Rattle.translator.specs.Translation.{translation}
 use Rattle.image_laws.proofs.Refusals.{reading_accepted}
 use Rattle.image_laws.proofs.RoundTrip.{settings_of_accepted}
-use Rattle.translation_laws.proofs.TranslationLaws.{translation-accepted}
-use Rattle.translation_laws.proofs.RunOutputs.{run-outputs}
-use Rattle.sheets.proofs.AcceptedSheet.{sheet-accepted}
+use Rattle.translation_laws.proofs.TranslationLaws.{translation_accepted}
+use Rattle.translation_laws.proofs.RunOutputs.{run_outputs}
+use Rattle.sheets.proofs.AcceptedSheet.{sheet_accepted}
 use Rattle.demands.proofs.Point3.{shown, NoneRefused, lent_table, third_point}
 
 -- the settings of an accepted image are accepted
@@ -54,7 +54,7 @@ pub same_path : (settings : Settings) (sheet buffer words : List ℕ) → (setti
     × NoneRefused tables
 same_path settings sheet buffer words good translates below =
     let runs = third_point sheet buffer words translates below in
-    let fits = run-outputs sheet_form sheet ((sheet-accepted sheet).1 ((translation-accepted sheet buffer).0 translates).0) words below in
+    let fits = run_outputs sheet_form sheet ((sheet_accepted sheet).1 ((translation_accepted sheet buffer).0 translates).0) words below in
     let same = same_outputs (driven settings) (sheet_run sheet words) (table_run (lent_table sheet buffer) words) runs.0 in
     let taken = every_map (λ answer. driven settings answer.outputs) (λ answer. pins_taken settings good answer.outputs) fits in
     (same, taken, subst (Every (λ answer. answer.verdict.number ≡ 0)) same taken, runs.1, runs.2)

@@ -24,7 +24,7 @@ use Rattle.detectors.specs.Bank.{channel_at, in_range, bank_verdict}
 use Rattle.detectors.specs.Tick.{levels_in_range, levels_verdict, frames_verdict, engine_ticked}
 use Rattle.detectors.specs.declared.Bank.{Bank}
 use Rattle.detectors.specs.declared.Detected.{Detected}
-use Rattle.detector_laws.proofs.Refusals.{refused-answer, accepted-answer}
+use Rattle.detector_laws.proofs.Refusals.{refused_answer, accepted_answer}
 use Rattle.machine.specs.Fields.{word_in_range, elapsed_in_range}
 use Rattle.machine.specs.Machine.{tick_on}
 use Rattle.machine.specs.declared.Node.{Node}
@@ -37,10 +37,10 @@ use Rattle.engine.specs.Engine.{Form, sheet_form, table_form, nodes_of, standing
 use Rattle.engine.specs.declared.Ticked.{Ticked}
 use Rattle.translator.specs.Translation.{cell_total, translation_verdict}
 use Rattle.state_calls.specs.StateCalls.{start_verdict, on_bytes, ticked_on, shown_on}
-use Rattle.state_calls.proofs.StateCallLaws.{on-bytes-passed, on-bytes-refused}
+use Rattle.state_calls.proofs.StateCallLaws.{on_bytes_passed, on_bytes_refused}
 use Rattle.recordings.specs.Recordings.{image_then, start_detected, detected_after, recorded}
 use Rattle.capi.specs.Calls.{normal_verdict}
-use Rattle.recordings.proofs.RecordingLaws.{recorded-bad-image, recorded-uneven, recorded-whole}
+use Rattle.recordings.proofs.RecordingLaws.{recorded_bad_image, recorded_uneven, recorded_whole}
 
 -- ---- over any verdicts
 
@@ -192,8 +192,8 @@ on_bytes_within : (state : List ℕ) (received : State) (answer : Ticked) → an
     → (on_bytes (bytes_verdict state) received answer).verdict.place ≤ 255
 on_bytes_within state received answer h =
     elim (ℕ_discrete (bytes_verdict state).number 0) [
-      | yes passes ↦ rw (on-bytes-passed (bytes_verdict state) received answer passes) h
-      | no refuses ↦ rw (on-bytes-refused (bytes_verdict state) received answer refuses) (bytes_within state)
+      | yes passes ↦ rw (on_bytes_passed (bytes_verdict state) received answer passes) h
+      | no refuses ↦ rw (on_bytes_refused (bytes_verdict state) received answer refuses) (bytes_within state)
     ]
 
 pub start_within : (state : List ℕ) → Within 0 (start_verdict state)
@@ -221,8 +221,8 @@ tick_within : (settings : Settings) (bank : Bank) (frames : List ℕ) → (engin
 unfolding engine_ticked
 tick_within settings bank frames =
     elim (ℕ_discrete (frames_verdict 20 settings bank frames).number 0) [
-      | yes passes ↦ rw (accepted-answer 20 settings bank frames passes) (omega arith)
-      | no refuses ↦ rw (refused-answer 20 settings bank frames refuses) (frames_within 20 settings bank frames)
+      | yes passes ↦ rw (accepted_answer 20 settings bank frames passes) (omega arith)
+      | no refuses ↦ rw (refused_answer 20 settings bank frames refuses) (frames_within 20 settings bank frames)
     ]
 
 after_within : (settings : Settings) (recording : List ℕ) (n : ℕ) → (detected_after settings recording n).verdict.place ≤ 79
@@ -238,9 +238,9 @@ after_within settings recording (suc n) =
 pub recorded_within : (image recording : List ℕ) → (recorded image recording).verdict.place ≤ 79
 recorded_within image recording =
     elim (ℕ_discrete (image_verdict image).number 0) [
-      | no refused ↦ rw (recorded-bad-image image recording refused) (image_within image)
+      | no refused ↦ rw (recorded_bad_image image recording refused) (image_within image)
       | yes good ↦ elim (ℕ_discrete (length recording % 220) 0) [
-        | no uneven ↦ rw (recorded-uneven image recording good uneven) (omega arith)
-        | yes whole ↦ rw (recorded-whole image recording good whole) (after_within (settings_of image) recording (length recording / 220))
+        | no uneven ↦ rw (recorded_uneven image recording good uneven) (omega arith)
+        | yes whole ↦ rw (recorded_whole image recording good whole) (after_within (settings_of image) recording (length recording / 220))
       ]
     ]

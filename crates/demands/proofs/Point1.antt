@@ -41,13 +41,13 @@ write_refused = images.written_refused
 pub tick_refused : (settings : Settings) (bank : Bank) (frame : List ℕ) → ¬ ((frames_verdict 1 settings bank frame).number ≡ 0)
     → ticked settings bank frame ≡ refused_on (frames_verdict 1 settings bank frame) bank
 unfolding ticked
-tick_refused = detectors.refused-answer 1
+tick_refused = detectors.refused_answer 1
 
 -- detectors::engine_tick
 pub engine_tick_refused : (settings : Settings) (bank : Bank) (frames : List ℕ) → ¬ ((frames_verdict 20 settings bank frames).number ≡ 0)
     → engine_ticked settings bank frames ≡ refused_on (frames_verdict 20 settings bank frames) bank
 unfolding engine_ticked
-engine_tick_refused = detectors.refused-answer 20
+engine_tick_refused = detectors.refused_answer 20
 
 -- pins::pins
 pub pins_refused : (settings : Settings) (outputs : ℕ) → ¬ ((pins_verdict settings outputs).number ≡ 0)
@@ -99,23 +99,23 @@ state_tick_refused form bytes state word h = rw (ne_eqb (ticked_on form bytes st
 pub tick_bytes_refused : (form : Form) (bytes state : List ℕ) (word : ℕ) → ¬ ((bytes_verdict state).number ≡ 0)
     → ticked_on form bytes state word ≡ refused_with (bytes_verdict state) (state_from state)
 unfolding ticked_on
-tick_bytes_refused form bytes state word = bytes_laws.on-bytes-refused (bytes_verdict state) (state_from state) _
+tick_bytes_refused form bytes state word = bytes_laws.on_bytes_refused (bytes_verdict state) (state_from state) _
 
 pub show_bytes_refused : (form : Form) (bytes state : List ℕ) → ¬ ((bytes_verdict state).number ≡ 0)
     → shown_on form bytes state ≡ refused_with (bytes_verdict state) (state_from state)
 unfolding shown_on
-show_bytes_refused form bytes state = bytes_laws.on-bytes-refused (bytes_verdict state) (state_from state) _
+show_bytes_refused form bytes state = bytes_laws.on_bytes_refused (bytes_verdict state) (state_from state) _
 
 -- then the library's own: on bytes that pass, the answer is the library's on the state that they hold.
 pub tick_bytes_taken : (form : Form) (bytes state : List ℕ) (word : ℕ) → (bytes_verdict state).number ≡ 0
     → ticked_on form bytes state word ≡ form_ticked form bytes (state_from state) word
 unfolding ticked_on
-tick_bytes_taken form bytes state word = bytes_laws.on-bytes-passed (bytes_verdict state) (state_from state) _
+tick_bytes_taken form bytes state word = bytes_laws.on_bytes_passed (bytes_verdict state) (state_from state) _
 
 pub show_bytes_taken : (form : Form) (bytes state : List ℕ) → (bytes_verdict state).number ≡ 0
     → shown_on form bytes state ≡ shown_at form bytes (state_from state)
 unfolding shown_on
-show_bytes_taken form bytes state = bytes_laws.on-bytes-passed (bytes_verdict state) (state_from state) _
+show_bytes_taken form bytes state = bytes_laws.on_bytes_passed (bytes_verdict state) (state_from state) _
 
 -- recordings::recorded
 pub recorded_refused : (image recording : List ℕ) → ¬ ((recorded image recording).verdict.number ≡ 0) → Wordless (recorded image recording)
@@ -125,4 +125,4 @@ recorded_refused = recorded_wordless
 
 -- wrackbasket_normal
 pub c_normal_refused : (image buffer : List ℕ) → ¬ ((normal_verdict image buffer).number ≡ 0) → normal_written image buffer ≡ buffer
-c_normal_refused = c_calls.normal-kept
+c_normal_refused = c_calls.normal_kept

@@ -93,4 +93,4 @@ accepted_exactly = refusals.accepted_exactly
 pub call_refused : (n : ℕ) (settings : Settings) (bank : Bank) (frames : List ℕ) → ¬ ((frames_verdict n settings bank frames).number ≡ 0)
     → detected_over n settings bank frames
     ≡ refused_on (frames_verdict n settings bank frames) bank
-call_refused = refusals.refused-answer
+call_refused = refusals.refused_answer

@@ -74,12 +74,12 @@ start_follows = simulation.start_follows
 -- and from every accepted state of an accepted sheet, a tick of the table goes where the sheet's tick goes,
 pub tick_follows : (sheet : List ℕ) → (sheet_verdict sheet).number ≡ 0 → cell_total sheet ≤ 63 → (state : State) → (sheet_state_verdict sheet state).number ≡ 0
     → (word : ℕ) → tick_on (cell_at (table_of sheet)) word (table_state sheet state) ≡ table_state sheet (tick_on (node_at sheet) word state)
-tick_follows = third.tick-same
+tick_follows = third.tick_same
 
 -- and the two show the same.
 pub outputs_follow : (sheet : List ℕ) → (sheet_verdict sheet).number ≡ 0 → cell_total sheet ≤ 63 → (state : State) → (sheet_state_verdict sheet state).number ≡ 0
     → (node_at sheet state.at).outputs ≡ (cell_at (table_of sheet) (table_state sheet state).at).outputs
-outputs_follow = third.outputs-same
+outputs_follow = third.outputs_same
 
 pub step_follows : (sheet : List ℕ) → (sheet_verdict sheet).number ≡ 0 → cell_total sheet ≤ 63 → (state : State) → (sheet_state_verdict sheet state).number ≡ 0
     → (node_at sheet state.at).step ≡ (cell_at (table_of sheet) (table_state sheet state).at).step
@@ -90,19 +90,19 @@ step_follows = third.step_same
 -- A sheet is translated exactly when it passes the sheet's tests, takes at most 63 cells and has twelve bytes of room for each.
 pub translated_exactly : (sheet buffer : List ℕ)
     → ((translation sheet buffer).verdict.number ≡ 0) ↔ (AcceptedSheet sheet × (cell_total sheet ≤ 63) × (12 * cell_total sheet ≤ length buffer))
-translated_exactly = translations.translation-accepted
+translated_exactly = translations.translation_accepted
 
 -- Each reason of the paper is a refusal, with no cell; every refusal has one of them, the first test that fails; and it writes no byte.
 pub refused_by : (sheet buffer : List ℕ) {v : Verdict} → Refused sheet (length buffer) v
     → translation sheet buffer ≡ record { verdict = v; cells = 0 }
-refused_by = translations.refused-answer
+refused_by = translations.refused_answer
 
 pub refusals : (sheet buffer : List ℕ) → ¬ ((translation sheet buffer).verdict.number ≡ 0) → Refused sheet (length buffer) (translation_verdict sheet (length buffer))
 unfolding translation
-refusals sheet buffer = translations.shows-refused sheet (length buffer)
+refusals sheet buffer = translations.shows_refused sheet (length buffer)
 
 pub refused_writes_nothing : (sheet buffer : List ℕ) → ¬ ((translation sheet buffer).verdict.number ≡ 0) → translated sheet buffer ≡ buffer
-refused_writes_nothing = translations.refused-bytes
+refused_writes_nothing = translations.refused_bytes
 
 -- ---- which sheets and tables are accepted
 
@@ -118,17 +118,17 @@ RefusedBy table_form table v = refused_tables.Refused table v
 
 -- The verdict of a whole sheet, or of a whole table, accepts exactly those that the paper's rules allow.
 pub whole_accepted : (form : Form) (bytes : List ℕ) → ((whole_verdict form bytes).number ≡ 0) ↔ Allowed form bytes
-whole_accepted sheet_form = sheets.sheet-accepted
-whole_accepted table_form = tables.table-accepted
+whole_accepted sheet_form = sheets.sheet_accepted
+whole_accepted table_form = tables.table_accepted
 
 -- It refuses by the first test that fails, at the lowest step or cell.
 pub whole_refused : (form : Form) (bytes : List ℕ) {v : Verdict} → RefusedBy form bytes v → whole_verdict form bytes ≡ v
-whole_refused sheet_form = refused_sheets.refused-shows
-whole_refused table_form = refused_tables.refused-shows
+whole_refused sheet_form = refused_sheets.refused_shows
+whole_refused table_form = refused_tables.refused_shows
 
 pub whole_refusals : (form : Form) (bytes : List ℕ) → ¬ ((whole_verdict form bytes).number ≡ 0) → RefusedBy form bytes (whole_verdict form bytes)
-whole_refusals sheet_form = refused_sheets.shows-refused
-whole_refusals table_form = refused_tables.shows-refused
+whole_refusals sheet_form = refused_sheets.shows_refused
+whole_refusals table_form = refused_tables.shows_refused
 
 -- ---- the table
 
@@ -155,7 +155,7 @@ translated_passes = translated_tables.translated_passes
 -- The verdict of one cell accepts exactly the cells of a table of the right length that the paper's rules allow.
 pub cell_accepted : (table : List ℕ) (k : ℕ)
     → ((cell_verdict table k).number ≡ 0) ↔ (TableLength table × (k < cell_count table) × AcceptedCell (cell_count table) (cell_at table k))
-cell_accepted = tables.verdict-accepted
+cell_accepted = tables.verdict_accepted
 
 -- A table that passes the whole-table verdict refuses no tick from an accepted state with a word below 1024, and the state is accepted again.
 pub table_ticks : (table : List ℕ) → (table_verdict table).number ≡ 0 → (state : State) (word : ℕ) → (table_state_verdict table state).number ≡ 0 → word < 1024
@@ -172,23 +172,23 @@ sheet_ticks sheet state word ok = state_kept.ticks sheet_form sheet (state_kept.
 -- A record repeats a tag exactly when an earlier one has it.
 pub repeats_earlier : (w : ℕ) (bytes : List ℕ) (j : ℕ) → repeats w bytes j ≡ true
     → (i : ℕ) × (i < j) × (tag_at w bytes i ≡ tag_at w bytes j)
-repeats_earlier = tag_laws.repeats-some
+repeats_earlier = tag_laws.repeats_some
 
 -- Look-up finds a record with the tag, and none before it has it.
 pub look_up_has : (w : ℕ) (bytes : List ℕ) (n tag : ℕ) → look_up w bytes n tag < n → tag_at w bytes (look_up w bytes n tag) ≡ tag
-look_up_has = tag_laws.lookUp-has
+look_up_has = tag_laws.look_up_has_lem
 
 pub look_up_lowest : (w : ℕ) (bytes : List ℕ) (n tag k : ℕ) → k < look_up w bytes n tag → ¬ (tag_at w bytes k ≡ tag)
-look_up_lowest = tag_laws.lookUp-first
+look_up_lowest = tag_laws.look_up_first
 
 -- Without repeats, look-up is the inverse of tag-at.
 pub look_up_inverse : (w : ℕ) (bytes : List ℕ) (n : ℕ) → ((j : ℕ) → j < n → repeats w bytes j ≡ false)
     → (k : ℕ) → k < n → look_up w bytes n (tag_at w bytes k) ≡ k
-look_up_inverse = tag_laws.lookUp-tagAt
+look_up_inverse = tag_laws.look_up_tag_at
 
 -- Tags are whole numbers of sixteen bits: two records have one tag exactly when both its bytes are the same.
 pub tag_range : (w : ℕ) (bytes : List ℕ) → Bytes bytes → (k : ℕ) → tag_at w bytes k < 65536
-tag_range = whole_tags.tag-lt
+tag_range = whole_tags.tag_lt
 
 pub same_tag : (w : ℕ) (bytes : List ℕ) → Bytes bytes → (i j : ℕ)
     → (tag_at w bytes i ≡ tag_at w bytes j) ↔ ((get_or bytes (w * i) 0 ≡ get_or bytes (w * j) 0) × (get_or bytes (w * i + 1) 0 ≡ get_or bytes (w * j + 1) 0))

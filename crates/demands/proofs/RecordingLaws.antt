@@ -10,9 +10,9 @@ use Rattle.image.specs.declared.Settings.{Settings}
 use Rattle.detectors.specs.Tick.{engine_ticked}
 use Rattle.detectors.specs.declared.Bank.{Bank}
 use Rattle.detectors.specs.declared.Detected.{Detected}
-use Rattle.detector_laws.proofs.Refusals.{refused-answer, answer-number}
+use Rattle.detector_laws.proofs.Refusals.{refused_answer, answer_number}
 use Rattle.recordings.specs.Recordings.{start_detected, detected_after, recorded}
-use Rattle.recordings.proofs.RecordingLaws.{one_more, refusal-stays, recorded-bad-image, recorded-uneven, recorded-whole}
+use Rattle.recordings.proofs.RecordingLaws.{one_more, refusal_stays, recorded_bad_image, recorded_uneven, recorded_whole}
 
 -- no words
 abbrev pub Wordless : Detected → Type 0
@@ -25,7 +25,7 @@ start_accepted settings recording = refl
 tick_wordless : (settings : Settings) (bank : Bank) (frames : List ℕ) → ¬ ((engine_ticked settings bank frames).verdict.number ≡ 0) → Wordless (engine_ticked settings bank frames)
 unfolding engine_ticked
 tick_wordless settings bank frames bad =
-    let refused = refused-answer 20 settings bank frames (λ zero. bad (answer-number 20 settings bank frames ∙ zero)) in
+    let refused = refused_answer 20 settings bank frames (λ zero. bad (answer_number 20 settings bank frames ∙ zero)) in
     (ap (λ (d : Detected). d.faults) refused, ap (λ (d : Detected). d.warnings) refused)
 
 after_wordless : (settings : Settings) (recording : List ℕ) (n : ℕ) → ¬ ((detected_after settings recording n).verdict.number ≡ 0)
@@ -37,7 +37,7 @@ after_wordless settings recording (suc n) bad =
           let ticked = one_more settings recording n 220 _ _ refl refl good refl ∙ ap (detected_after settings recording) plus in
           subst Wordless ticked (tick_wordless settings _ _ (λ zero. bad (sym (ap (λ (d : Detected). d.verdict.number) ticked) ∙ zero)))
       | no stays ↦
-          let same = refusal-stays settings recording n 1 stays in
+          let same = refusal_stays settings recording n 1 stays in
           subst Wordless (sym same ∙ ap (detected_after settings recording) plus) (after_wordless settings recording n stays)
     ]
   where
@@ -48,11 +48,11 @@ after_wordless settings recording (suc n) bad =
 pub recorded_wordless : (image recording : List ℕ) → ¬ ((recorded image recording).verdict.number ≡ 0) → Wordless (recorded image recording)
 recorded_wordless image recording bad =
     elim (ℕ_discrete (image_verdict image).number 0) [
-      | no refused ↦ (let is = recorded-bad-image image recording refused in subst Wordless (sym is) (refl, refl))
+      | no refused ↦ (let is = recorded_bad_image image recording refused in subst Wordless (sym is) (refl, refl))
       | yes good ↦ elim (ℕ_discrete (length recording % 220) 0) [
-        | no uneven ↦ (let is = recorded-uneven image recording good uneven in subst Wordless (sym is) (refl, refl))
+        | no uneven ↦ (let is = recorded_uneven image recording good uneven in subst Wordless (sym is) (refl, refl))
         | yes whole ↦
-            (let is = recorded-whole image recording good whole in
+            (let is = recorded_whole image recording good whole in
             subst Wordless (sym is) (after_wordless (settings_of image) recording (length recording / 220) (λ zero. bad (ap (λ (d : Detected). d.verdict.number) is ∙ zero))))
       ]
     ]

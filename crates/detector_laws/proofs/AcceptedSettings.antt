@@ -15,7 +15,7 @@ use Rattle.writing.specs.Writing.{setting_byte, settings_verdict, code_verdict, 
 use Rattle.image.specs.declared.Logic.{Logic}
 use Rattle.image.specs.declared.Settings.{Settings}
 use Rattle.channels.specs.Channel.{ticks}
-use Rattle.records.proofs.VerdictLaws.{accepted-tests}
+use Rattle.records.proofs.VerdictLaws.{accepted_tests}
 
 -- a value stands in a table
 pub record Listed (table : List ℕ) (value : ℕ) : Type 0 where
@@ -41,7 +41,7 @@ byte_accepted : (settings : Settings) → (settings_verdict settings).number ≡
 unfolding settings_verdict
 byte_accepted settings h address below =
     number_zero (code_number (setting_byte settings address)) address
-    (accepted-tests (λ a. code_verdict (setting_byte settings a) a) 80 h address below)
+    (accepted_tests (λ a. code_verdict (setting_byte settings a) a) 80 h address below)
 
 logic_byte_lem : (settings : Settings) → (settings_verdict settings).number ≡ 0 → (k : ℕ) → k < 10
     → code_number (logic_byte k (group_at settings k).logic) ≡ 0

@@ -14,7 +14,7 @@ use Rattle.channels.specs.Channel.{start_channel}
 use Rattle.detectors.specs.Bank.{channel_at, next_channel, bank_after, start_bank, in_range, bank_verdict}
 use Rattle.detectors.specs.declared.Bank.{Bank}
 use Rattle.detector_laws.proofs.ChannelRange.{InRange, in_range_true, true_in_range}
-use Rattle.records.proofs.VerdictLaws.{Lowest, unless_zero, unless_refused, tests-accepted, accepted-tests, lowest-shows}
+use Rattle.records.proofs.VerdictLaws.{Lowest, unless_zero, unless_refused, tests_accepted, accepted_tests, lowest_shows}
 
 -- ---- one channel of the bank
 -- channel k of the bank after a frame
@@ -36,27 +36,27 @@ channel_test settings bank k = refused_unless (in_range k (group_at settings k) 
 
 module _ (settings : Settings) (bank : Bank) where
   -- accepted exactly when every channel is in range
-  pub channels-accepted : ((k : ℕ) → k < 10 → InRange k (group_at settings k) (channel_at bank k)) → bank_verdict settings bank ≡ accepted
+  pub channels_accepted : ((k : ℕ) → k < 10 → InRange k (group_at settings k) (channel_at bank k)) → bank_verdict settings bank ≡ accepted
   unfolding bank_verdict
-  channels-accepted h =
-      tests-accepted (channel_test settings bank) 10 (λ k below. rw (in_range_true k (group_at settings k) (channel_at bank k) (h k below)))
+  channels_accepted h =
+      tests_accepted (channel_test settings bank) 10 (λ k below. rw (in_range_true k (group_at settings k) (channel_at bank k) (h k below)))
 
   -- and the other way
-  pub accepted-channels : (bank_verdict settings bank).number ≡ 0 → (k : ℕ) → k < 10 → InRange k (group_at settings k) (channel_at bank k)
+  pub accepted_channels : (bank_verdict settings bank).number ≡ 0 → (k : ℕ) → k < 10 → InRange k (group_at settings k) (channel_at bank k)
   unfolding bank_verdict
-  accepted-channels h k below =
+  accepted_channels h k below =
       true_in_range k (group_at settings k) (channel_at bank k)
       (unless_zero (in_range k (group_at settings k) (channel_at bank k)) unreachable k (suc-ne-zero 7)
-      (accepted-tests (channel_test settings bank) 10 h k below))
+      (accepted_tests (channel_test settings bank) 10 h k below))
 
   -- number 0 comes with place 0
-  pub bank-zero : (bank_verdict settings bank).number ≡ 0 → bank_verdict settings bank ≡ accepted
+  pub bank_zero : (bank_verdict settings bank).number ≡ 0 → bank_verdict settings bank ≡ accepted
   unfolding bank_verdict
-  bank-zero h = first_accepted _ h
+  bank_zero h = first_accepted _ h
 
   -- "Number 8 at the lowest channel"
-  pub lowest-channel : (k : ℕ) → Lowest (channel_test settings bank) 10 k → bank_verdict settings bank ≡ record { number = unreachable; place = k }
+  pub lowest_channel : (k : ℕ) → Lowest (channel_test settings bank) 10 k → bank_verdict settings bank ≡ record { number = unreachable; place = k }
   unfolding bank_verdict
-  lowest-channel k lowest =
-      lowest-shows (channel_test settings bank) 10 k lowest
+  lowest_channel k lowest =
+      lowest_shows (channel_test settings bank) 10 k lowest
       ∙ unless_refused (in_range k (group_at settings k) (channel_at bank k)) unreachable k lowest.refuses

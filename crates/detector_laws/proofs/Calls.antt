@@ -21,14 +21,14 @@ use Rattle.records.proofs.VerdictLaws.{number_of}
 use Rattle.detector_laws.proofs.StateKept.{start_accepted, run_kept, run_accepted}
 use Rattle.detector_laws.proofs.ChannelRule.{Agree, SameBits, same_bits}
 use Rattle.detector_laws.proofs.EngineRule.{words_of_last, part_at, engine_bank_at, engine_words_at, engine_bank, frame_of_part, engine_same_bits}
-use Rattle.detector_laws.proofs.Refusals.{Acceptable, refused-answer, accepted-answer, answer-number, accepted_exactly, verdict-exactly, accepted-levels, length-shows, levels-show}
+use Rattle.detector_laws.proofs.Refusals.{Acceptable, refused_answer, accepted_answer, answer_number, accepted_exactly, verdict_exactly, accepted_levels, length_shows, levels_show}
 
 -- the bank of an accepted call is accepted again, under the same settings
 pub accepted_again : (n : ℕ) (settings : Settings) (bank : Bank) (frames : List ℕ) → (detected_over n settings bank frames).verdict.number ≡ 0
     → bank_verdict settings (detected_over n settings bank frames).bank ≡ accepted
 accepted_again n settings bank frames h =
     let good = (accepted_exactly n settings bank frames).0 h in
-    ap (λ (d : Detected). bank_verdict settings d.bank) (accepted-answer n settings bank frames ((verdict-exactly n settings bank frames).1 good))
+    ap (λ (d : Detected). bank_verdict settings d.bank) (accepted_answer n settings bank frames ((verdict_exactly n settings bank frames).1 good))
     ∙ run_kept settings frames bank good.settings_accepted good.bank_accepted n
 
 -- under accepted settings no call on a bank of a run from the start is refused 8, whatever its bytes
@@ -37,17 +37,17 @@ pub never_unreachable : (settings : Settings) (frames : List ℕ) (n : ℕ) → 
 never_unreachable settings frames n good m more h =
     let bank = bank_at settings frames start_bank n in
     let held = run_accepted settings frames n good in
-    let number = sym (answer-number m settings bank more) ∙ h in
+    let number = sym (answer_number m settings bank more) ∙ h in
     elim (ℕ_discrete (length more) (11 * m)) [
-      | no wrong ↦ omega (arith, number, ap number_of (length-shows m settings bank more wrong))
+      | no wrong ↦ omega (arith, number, ap number_of (length_shows m settings bank more wrong))
       | yes right ↦ elim (ℕ_discrete (levels_verdict m more).number 0) [
         | yes low ↦ (let fine : Acceptable m settings bank more = record {
           length_right = right;
           settings_accepted = good;
           bank_accepted = held;
-          levels_low = accepted-levels m more low;
-        } in omega (arith, number, (verdict-exactly m settings bank more).1 fine))
-        | no high ↦ omega (arith, number, ap number_of (levels-show m settings bank more right good held high))
+          levels_low = accepted_levels m more low;
+        } in omega (arith, number, (verdict_exactly m settings bank more).1 fine))
+        | no high ↦ omega (arith, number, ap number_of (levels_show m settings bank more right good held high))
       ]
     ]
 
@@ -75,8 +75,8 @@ pub words_fit : (n : ℕ) (settings : Settings) (bank : Bank) (frames : List ℕ
 unfolding trace
 words_fit n settings bank frames =
     elim (ℕ_discrete (frames_verdict n settings bank frames).number 0) [
-      | yes h ↦ rw (accepted-answer n settings bank frames h) (over_fits (words_at settings frames bank) n (tick_fits settings frames bank))
-      | no h ↦ rw (refused-answer n settings bank frames h) (record { faults_fit = omega arith; warnings_fit = omega arith })
+      | yes h ↦ rw (accepted_answer n settings bank frames h) (over_fits (words_at settings frames bank) n (tick_fits settings frames bank))
+      | no h ↦ rw (refused_answer n settings bank frames h) (record { faults_fit = omega arith; warnings_fit = omega arith })
     ]
 
 -- ---- a run of frames is a run of calls
@@ -105,8 +105,8 @@ pub tick_of_run : (settings : Settings) (frames : List ℕ) (bank : Bank) (n : �
 unfolding ticked bank_at trace each words_over words_at
 tick_of_run settings frames bank n good held i below =
     let now = bank_at settings frames bank i in
-    accepted-answer 1 settings now (frame_at frames i)
-    ((verdict-exactly 1 settings now (frame_at frames i)).1
+    accepted_answer 1 settings now (frame_at frames i)
+    ((verdict_exactly 1 settings now (frame_at frames i)).1
     (record {
       length_right = frame_length frames n i good.length_right below;
       settings_accepted = good.settings_accepted;
@@ -127,8 +127,8 @@ pub engine_tick_of_run : (settings : Settings) (bytes : List ℕ) (bank : Bank) 
 unfolding engine_ticked engine_bank_at engine_words_at
 engine_tick_of_run settings bytes bank m good held e below =
     let now = engine_bank_at settings bytes bank e in
-    accepted-answer 20 settings now (part_at bytes e)
-    ((verdict-exactly 20 settings now (part_at bytes e)).1
+    accepted_answer 20 settings now (part_at bytes e)
+    ((verdict_exactly 20 settings now (part_at bytes e)).1
     (record {
       length_right = part_length bytes m e good.length_right below;
       settings_accepted = good.settings_accepted;

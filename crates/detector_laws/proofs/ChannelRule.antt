@@ -91,21 +91,21 @@ warning_is_bit settings frames i k below = word_of_bit (warning_at settings fram
 
 module _ (k n : ℕ) (s t : Settings) (f g : List ℕ) (below : k < 10) (agree : Agree k n s t f g) (i : ℕ) (h : i < n) where
   -- on every tick the channel's fault is the same
-  pub same-fault : fault_at s f i k ≡ fault_at t g i k
+  pub same_fault : fault_at s f i k ≡ fault_at t g i k
   unfolding fault_at
-  same-fault =
+  same_fault =
       λ j. fault_bit (agree.group j) (same_channel k n s t f g below agree i (omega arith) j) (same_channel k n s t f g below agree (suc i) h j)
 
   -- and so is its warning
-  pub same-warning : warning_at s f i k ≡ warning_at t g i k
+  pub same_warning : warning_at s f i k ≡ warning_at t g i k
   unfolding warning_at
-  same-warning =
+  same_warning =
       λ j. warning_bit (agree.group j) (same_channel k n s t f g below agree i (omega arith) j) (same_channel k n s t f g below agree (suc i) h j)
 
   -- bit k of the two ticks' fault words is the same, and so is that of their warning words
   pub same_bits : SameBits k (words_at s f start_bank i) (words_at t g start_bank i)
   same_bits =
       record {
-        faults = fault_is_bit s f i k below ∙ ap (λ (b : Bool). cond b 1 0) same-fault ∙ sym (fault_is_bit t g i k below);
-        warnings = warning_is_bit s f i k below ∙ ap (λ (b : Bool). cond b 1 0) same-warning ∙ sym (warning_is_bit t g i k below);
+        faults = fault_is_bit s f i k below ∙ ap (λ (b : Bool). cond b 1 0) same_fault ∙ sym (fault_is_bit t g i k below);
+        warnings = warning_is_bit s f i k below ∙ ap (λ (b : Bool). cond b 1 0) same_warning ∙ sym (warning_is_bit t g i k below);
       }

@@ -7,7 +7,7 @@ use native.Mathlib.Omega.{arith}
 use lib.ListN.{get_or, take, drop}
 use lib.Seq.{take-take, drop-drop, take-nil}
 use Rattle.records.specs.Lists.{each}
-use Rattle.records.proofs.ListLaws.{each_at, each-length, each-ext, each_from}
+use Rattle.records.proofs.ListLaws.{each_at, each_length, each_ext, each_from}
 use Rattle.image.specs.declared.Settings.{Settings}
 use Rattle.detectors.specs.Bank.{channel_at, bank_after, faults_of, warnings_of, start_bank}
 use Rattle.channels.specs.Frame.{frame_at}
@@ -84,7 +84,7 @@ unfolding engine_words_at trace
 engine_words settings bytes bank e =
     ap (λ (b : Bank). words_over (each (words_at settings (part_at bytes e) b) 0 20)) (engine_bank settings bytes bank e)
     ∙ ap words_over
-    (each-ext (words_at settings (part_at bytes e) (bank_at settings bytes bank (20 * e))) (λ i. words_at settings bytes bank (20 * e + i)) 0 20
+    (each_ext (words_at settings (part_at bytes e) (bank_at settings bytes bank (20 * e))) (λ i. words_at settings bytes bank (20 * e + i)) 0 20
     (λ i h. words_go_on settings (part_at bytes e) bytes bank (20 * e) 20 (frame_of_part bytes e) (0 + i) (omega arith))
     ∙ sym (each_from (words_at settings bytes bank) (20 * e) 20))
 
@@ -93,7 +93,7 @@ engine_words settings bytes bank e =
 pub words_of_last : (w : ℕ → Words) (i n : ℕ) → 0 < n → words_over (each w i n) ≡ w (i + (n - 1))
 unfolding words_over
 words_of_last w i n some =
-    ap (λ (j : ℕ). get_or (each w i n) (j - 1) no_words) (each-length w i n) ∙ each_at w i n (n - 1) no_words (omega arith)
+    ap (λ (j : ℕ). get_or (each w i n) (j - 1) no_words) (each_length w i n) ∙ each_at w i n (n - 1) no_words (omega arith)
 
 -- ticks with the same bits have the same bits over them all
 over_same_bits : (k : ℕ) (v w : ℕ → Words) (i n : ℕ) → 0 < n → ((j : ℕ) → j < n → SameBits k (v (i + j)) (w (i + j)))

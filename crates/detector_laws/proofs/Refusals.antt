@@ -21,8 +21,8 @@ use Rattle.channels.specs.Frame.{frame_at}
 use Rattle.detectors.specs.Tick.{bank_at, words_over, trace, levels_in_range, levels_verdict, frames_verdict, detected_as, refused_on, detected, detected_over}
 use Rattle.detectors.specs.declared.Bank.{Bank}
 use Rattle.detectors.specs.declared.Detected.{Detected}
-use Rattle.detector_laws.proofs.BankRange.{bank-zero}
-use Rattle.records.proofs.VerdictLaws.{number_of, unless_zero, unless_refused, tests-accepted, accepted-tests, lowest-shows, shows-lowest}
+use Rattle.detector_laws.proofs.BankRange.{bank_zero}
+use Rattle.records.proofs.VerdictLaws.{number_of, unless_zero, unless_refused, tests_accepted, accepted_tests, lowest_shows, shows_lowest}
 
 -- ---- the level bytes
 -- the test of frame i's
@@ -31,22 +31,22 @@ level_test frames i = refused_unless (levels_in_range frames i) bad_word 0
 
 module _ (n : ℕ) (frames : List ℕ) where
   -- accepted exactly when bits 5 to 7 of every level byte are 0
-  pub levels-accepted : ((i : ℕ) → i < n → get_or (frame_at frames i) 10 0 < 32) → levels_verdict n frames ≡ accepted
+  pub levels_accepted : ((i : ℕ) → i < n → get_or (frame_at frames i) 10 0 < 32) → levels_verdict n frames ≡ accepted
   unfolding levels_verdict levels_in_range
-  levels-accepted h = tests-accepted (level_test frames) n (λ i below. rw (lt-ltb _ _ (h i below)))
+  levels_accepted h = tests_accepted (level_test frames) n (λ i below. rw (lt-ltb _ _ (h i below)))
 
   -- and the other way
-  pub accepted-levels : (levels_verdict n frames).number ≡ 0 → (i : ℕ) → i < n → get_or (frame_at frames i) 10 0 < 32
+  pub accepted_levels : (levels_verdict n frames).number ≡ 0 → (i : ℕ) → i < n → get_or (frame_at frames i) 10 0 < 32
   unfolding levels_verdict levels_in_range
-  accepted-levels h i below =
-      ltb-true _ _ (unless_zero (levels_in_range frames i) bad_word 0 (suc-ne-zero 8) (accepted-tests (level_test frames) n h i below))
+  accepted_levels h i below =
+      ltb-true _ _ (unless_zero (levels_in_range frames i) bad_word 0 (suc-ne-zero 8) (accepted_tests (level_test frames) n h i below))
 
   -- refused, it is 9 at 0, whichever frame it is
-  pub levels-refused : ¬ ((levels_verdict n frames).number ≡ 0) → levels_verdict n frames ≡ record { number = bad_word; place = 0 }
+  pub levels_refused : ¬ ((levels_verdict n frames).number ≡ 0) → levels_verdict n frames ≡ record { number = bad_word; place = 0 }
   unfolding levels_verdict
-  levels-refused h =
-      let lowest = shows-lowest (level_test frames) n h in
-      lowest-shows (level_test frames) n lowest.0 lowest.1 ∙ unless_refused (levels_in_range frames lowest.0) bad_word 0 lowest.1.refuses
+  levels_refused h =
+      let lowest = shows_lowest (level_test frames) n h in
+      lowest_shows (level_test frames) n lowest.0 lowest.1 ∙ unless_refused (levels_in_range frames lowest.0) bad_word 0 lowest.1.refuses
 
 -- ---- what a call asks of its input
 -- the four conditions
@@ -64,29 +64,29 @@ tests n settings bank frames =
 module _ (n : ℕ) (settings : Settings) (bank : Bank) (frames : List ℕ) where
   -- ---- the answers
   -- a refused call gives back the bank it received and zero words, with the verdict
-  pub refused-answer : ¬ ((frames_verdict n settings bank frames).number ≡ 0)
+  pub refused_answer : ¬ ((frames_verdict n settings bank frames).number ≡ 0)
       → detected_over n settings bank frames ≡ refused_on (frames_verdict n settings bank frames) bank
   unfolding detected_over detected
-  refused-answer h = rw (ne_eqb _ _ h)
+  refused_answer h = rw (ne_eqb _ _ h)
 
   -- an accepted call answers number 0 at place 0, the bank after the frames, and the words over them
-  pub accepted-answer : (frames_verdict n settings bank frames).number ≡ 0
+  pub accepted_answer : (frames_verdict n settings bank frames).number ≡ 0
       → detected_over n settings bank frames ≡ detected_as (bank_at settings frames bank n) (words_over (trace settings frames bank n))
   unfolding detected_over detected
-  accepted-answer h = rw (eq-eqb _ _ h)
+  accepted_answer h = rw (eq-eqb _ _ h)
 
   -- the answer has the verdict
-  pub answer-verdict : (detected_over n settings bank frames).verdict ≡ frames_verdict n settings bank frames
+  pub answer_verdict : (detected_over n settings bank frames).verdict ≡ frames_verdict n settings bank frames
   unfolding frames_verdict
-  answer-verdict =
+  answer_verdict =
       elim (ℕ_discrete (frames_verdict n settings bank frames).number 0) [
-        | yes h ↦ ap (λ (d : Detected). d.verdict) (accepted-answer h) ∙ sym (first_accepted (tests n settings bank frames) h)
-        | no h ↦ ap (λ (d : Detected). d.verdict) (refused-answer h)
+        | yes h ↦ ap (λ (d : Detected). d.verdict) (accepted_answer h) ∙ sym (first_accepted (tests n settings bank frames) h)
+        | no h ↦ ap (λ (d : Detected). d.verdict) (refused_answer h)
       ]
 
   -- and so its number
-  pub answer-number : (detected_over n settings bank frames).verdict.number ≡ (frames_verdict n settings bank frames).number
-  answer-number = ap number_of answer-verdict
+  pub answer_number : (detected_over n settings bank frames).verdict.number ≡ (frames_verdict n settings bank frames).number
+  answer_number = ap number_of answer_verdict
 
   -- any two answers that the promise allows are equal
   pub one_answer : (r s : Detected) → r ≡ detected_over n settings bank frames → s ≡ detected_over n settings bank frames → r ≡ s
@@ -94,17 +94,17 @@ module _ (n : ℕ) (settings : Settings) (bank : Bank) (frames : List ℕ) where
 
   -- ---- acceptance
   -- the verdict is number 0 exactly when the input is acceptable
-  pub verdict-exactly : ((frames_verdict n settings bank frames).number ≡ 0) ↔ Acceptable n settings bank frames
+  pub verdict_exactly : ((frames_verdict n settings bank frames).number ≡ 0) ↔ Acceptable n settings bank frames
   unfolding frames_verdict
-  verdict-exactly = (
+  verdict_exactly = (
     λ e.
         elim (all_pass _ e) [
           | right also good also held also low also none ↦
               record {
                 length_right = unless_passed (eq_test _ _) wrong_length 0 (suc-ne-zero 0) right;
                 settings_accepted = good;
-                bank_accepted = bank-zero settings bank held;
-                levels_low = accepted-levels n frames low;
+                bank_accepted = bank_zero settings bank held;
+                levels_low = accepted_levels n frames low;
               }
         ],
     λ h.
@@ -112,44 +112,44 @@ module _ (n : ℕ) (settings : Settings) (bank : Bank) (frames : List ℕ) where
         unless_passes (eq_test _ _) wrong_length 0 h.length_right also
         h.settings_accepted also
         ap number_of h.bank_accepted also
-        ap number_of (levels-accepted n frames h.levels_low) also
+        ap number_of (levels_accepted n frames h.levels_low) also
         none),
   )
 
   -- a call is accepted exactly when its input is acceptable
   pub accepted_exactly : ((detected_over n settings bank frames).verdict.number ≡ 0) ↔ Acceptable n settings bank frames
-  accepted_exactly = (λ h. verdict-exactly.0 (sym answer-number ∙ h), λ h. answer-number ∙ verdict-exactly.1 h)
+  accepted_exactly = (λ h. verdict_exactly.0 (sym answer_number ∙ h), λ h. answer_number ∙ verdict_exactly.1 h)
 
   -- ---- "Tests run in the order 1, 4, 8, 9"
   -- a test's refusal shows where all before it pass
-  pub first-test-shows : (j : ℕ) → FirstAt (tests n settings bank frames) j
+  pub first_test_shows : (j : ℕ) → FirstAt (tests n settings bank frames) j
       → frames_verdict n settings bank frames ≡ get_or (tests n settings bank frames) j accepted
   unfolding frames_verdict
-  first-test-shows j first = first_shows (tests n settings bank frames) j first
+  first_test_shows j first = first_shows (tests n settings bank frames) j first
 
   -- and no refusal shows but such a test's
-  pub shown-is-first : ¬ ((frames_verdict n settings bank frames).number ≡ 0) → (j : ℕ) × FirstAt (tests n settings bank frames) j
+  pub shown_is_first : ¬ ((frames_verdict n settings bank frames).number ≡ 0) → (j : ℕ) × FirstAt (tests n settings bank frames) j
   unfolding frames_verdict
-  shown-is-first refused = shows_first (tests n settings bank frames) refused
+  shown_is_first refused = shows_first (tests n settings bank frames) refused
 
   -- 1 at 0 where the length is wrong
-  pub length-shows : ¬ (length frames ≡ 11 * n) → frames_verdict n settings bank frames ≡ record { number = wrong_length; place = 0 }
+  pub length_shows : ¬ (length frames ≡ 11 * n) → frames_verdict n settings bank frames ≡ record { number = wrong_length; place = 0 }
   unfolding frames_verdict first_refusal or_else
-  length-shows wrong = rw (ne_eqb _ _ wrong)
+  length_shows wrong = rw (ne_eqb _ _ wrong)
 
   -- the settings' own refusal where the length is right
-  pub settings-show : length frames ≡ 11 * n → ¬ ((settings_verdict settings).number ≡ 0) → frames_verdict n settings bank frames ≡ settings_verdict settings
+  pub settings_show : length frames ≡ 11 * n → ¬ ((settings_verdict settings).number ≡ 0) → frames_verdict n settings bank frames ≡ settings_verdict settings
   unfolding frames_verdict first_refusal
-  settings-show right refused = or_else_pass _ _ (rw (eq-eqb _ _ right)) ∙ or_else_hit _ _ refused
+  settings_show right refused = or_else_pass _ _ (rw (eq-eqb _ _ right)) ∙ or_else_hit _ _ refused
 
   -- the bank's own refusal where the length is right and the settings are accepted
-  pub bank-shows : length frames ≡ 11 * n → (settings_verdict settings).number ≡ 0 → ¬ ((bank_verdict settings bank).number ≡ 0)
+  pub bank_shows : length frames ≡ 11 * n → (settings_verdict settings).number ≡ 0 → ¬ ((bank_verdict settings bank).number ≡ 0)
       → frames_verdict n settings bank frames ≡ bank_verdict settings bank
   unfolding frames_verdict first_refusal
-  bank-shows right good refused = or_else_pass _ _ (rw (eq-eqb _ _ right)) ∙ or_else_pass _ _ good ∙ or_else_hit _ _ refused
+  bank_shows right good refused = or_else_pass _ _ (rw (eq-eqb _ _ right)) ∙ or_else_pass _ _ good ∙ or_else_hit _ _ refused
 
   -- 9 at 0 where the length is right, settings and bank are accepted, and the level bytes are refused
-  pub levels-show : length frames ≡ 11 * n → (settings_verdict settings).number ≡ 0 → bank_verdict settings bank ≡ accepted
+  pub levels_show : length frames ≡ 11 * n → (settings_verdict settings).number ≡ 0 → bank_verdict settings bank ≡ accepted
       → ¬ ((levels_verdict n frames).number ≡ 0) → frames_verdict n settings bank frames ≡ record { number = bad_word; place = 0 }
   unfolding frames_verdict first_refusal or_else
-  levels-show right good held refused = rw (eq-eqb _ _ right, eq-eqb _ _ good, held, levels-refused n frames refused)
+  levels_show right good held refused = rw (eq-eqb _ _ right, eq-eqb _ _ good, held, levels_refused n frames refused)

@@ -17,7 +17,7 @@ use Rattle.detectors.specs.declared.Bank.{Bank}
 use Rattle.records.proofs.VerdictLaws.{number_of}
 use Rattle.detector_laws.proofs.AcceptedSettings.{accepted_logic}
 use Rattle.detector_laws.proofs.ChannelRange.{Quiet, InRange, range_kept, range_start}
-use Rattle.detector_laws.proofs.BankRange.{channel_after_lem, channel_start, channels-accepted, accepted-channels}
+use Rattle.detector_laws.proofs.BankRange.{channel_after_lem, channel_start, channels_accepted, accepted_channels}
 
 -- VP and VH have no level
 low_level : (input : Input) (frame : List ℕ) (k : ℕ) → k < 5 → (sample_at input frame k).level ≡ false
@@ -27,18 +27,18 @@ low_level input frame k below = rw (lt-leb 5 k below)
 -- under accepted settings, a tick on any frame takes an accepted bank to an accepted bank
 pub state_kept : (settings : Settings) (frame : List ℕ) (bank : Bank) → (settings_verdict settings).number ≡ 0 → bank_verdict settings bank ≡ accepted
     → bank_verdict settings (bank_after settings frame bank) ≡ accepted
-state_kept settings frame bank good held = channels-accepted settings (bank_after settings frame bank) after
+state_kept settings frame bank good held = channels_accepted settings (bank_after settings frame bank) after
   where
     after : (k : ℕ) → k < 10 → InRange k (group_at settings k) (channel_at (bank_after settings frame bank) k)
     after k below =
         subst (InRange k (group_at settings k)) (sym (channel_after_lem settings frame bank k below))
         (range_kept k (group_at settings k) (sample_at (group_at settings k).input frame k) (channel_at bank k) (accepted_logic settings good k below)
         (low_level (group_at settings k).input frame k)
-        (accepted-channels settings bank (ap number_of held) k below))
+        (accepted_channels settings bank (ap number_of held) k below))
 
 -- the start is accepted under all accepted settings
 pub start_accepted : (settings : Settings) → (settings_verdict settings).number ≡ 0 → bank_verdict settings start_bank ≡ accepted
-start_accepted settings good = channels-accepted settings start_bank start
+start_accepted settings good = channels_accepted settings start_bank start
   where
     start : (k : ℕ) → k < 10 → InRange k (group_at settings k) (channel_at start_bank k)
     start k below =
@@ -62,4 +62,4 @@ pub logic_quiet : (settings : Settings) (frames : List ℕ) (n k : ℕ) → (set
     → Quiet (channel_at (bank_at settings frames start_bank n) k)
 logic_quiet settings frames n k good below =
     let bank = bank_at settings frames start_bank n in
-    (accepted-channels settings bank (ap number_of (run_accepted settings frames n good)) k (omega arith)).still below
+    (accepted_channels settings bank (ap number_of (run_accepted settings frames n good)) k (omega arith)).still below

@@ -35,11 +35,11 @@ module _ (form : Form) (bytes : List ℕ) (state : State) {stood : Standing} {te
   unfolding shown_at
   shown_by r = r ∙ ap₂ (λ (v : Verdict) (n : Node). answered_at v state n) tests here
 
-  pub ticked-by : (word : ℕ) {went : Went} {node : Node} {r : Ticked} → went ≡ went_from tested stood.node state word
+  pub ticked_by : (word : ℕ) {went : Went} {node : Node} {r : Ticked} → went ≡ went_from tested stood.node state word
       → node ≡ nodes_of form bytes went.taken.state.at → r ≡ answered_at went.verdict went.taken.state node
       → r ≡ ticked form bytes state word
   unfolding ticked
-  ticked-by word w n r =
+  ticked_by word w n r =
       r
       ∙ ap (answered_at _ _) n
       ∙ ap (λ (x : Went). answered_at x.verdict x.taken.state (nodes_of form bytes x.taken.state.at))

@@ -16,7 +16,7 @@ use Rattle.image.specs.Reading.{image_verdict}
 use Rattle.writing.specs.Writing.{setting_byte, settings_verdict, write_verdict}
 use Rattle.image.specs.declared.Settings.{Settings}
 use Rattle.image_laws.proofs.Conditions.{usable_at, printed_at, GoodBelow, Reached, ImageAnswer, MeantBelow, LowestLacking, SettingsAnswer}
-use Rattle.image_laws.proofs.AcceptanceLaws.{unlike, refused_exactly, ByteAnswer, byte-answer, byte-reserved, byte-unprinted, byte-refused, image-zero, another-length, eighty-of, image-lowest, image-refused, not_meant, settings-zero, settings-lowest}
+use Rattle.image_laws.proofs.AcceptanceLaws.{unlike, refused_exactly, ByteAnswer, byte_answer, byte_reserved, byte_unprinted, byte_refused, image_zero, another_length, eighty_of, image_lowest, image_refused, not_meant, settings_zero, settings_lowest}
 use Rattle.records.proofs.VerdictLaws.{number_of, or_else_pass, or_else_end}
 
 -- ---- an image
@@ -24,30 +24,30 @@ use Rattle.records.proofs.VerdictLaws.{number_of, or_else_pass, or_else_end}
 pub image_accepted : (image : List ℕ) → (image_verdict image ≡ accepted) ↔ ((length image ≡ 80) × GoodBelow image 80)
 image_accepted image = (
   λ e.
-      let eighty = eighty-of image (λ q. unlike (sym (ap number_of e) ∙ q) tt) in
-      (eighty, (image-lowest image eighty).accepts.0 (ap number_of e)),
-  λ good. image-zero image ((image-lowest image good.0).accepts.1 good.1),
+      let eighty = eighty_of image (λ q. unlike (sym (ap number_of e) ∙ q) tt) in
+      (eighty, (image_lowest image eighty).accepts.0 (ap number_of e)),
+  λ good. image_zero image ((image_lowest image good.0).accepts.1 good.1),
 )
 
 -- refused for its length exactly when it has not eighty bytes
 pub image_wrong_length : (image : List ℕ) → (image_verdict image ≡ record { number = wrong_length; place = 0 }) ↔ (¬ (length image ≡ 80))
-image_wrong_length image = (only, another-length image)
+image_wrong_length image = (only, another_length image)
   where
     only : image_verdict image ≡ record { number = wrong_length; place = 0 } → ¬ (length image ≡ 80)
     only e eighty =
         let one = ap number_of e in
-        let low = (image-lowest image eighty).refuses (omega arith) in
+        let low = (image_lowest image eighty).refuses (omega arith) in
         let a = low.0 in
-        let same = ap number_of ((image-lowest image eighty).names a low.1) in
-        let more = (byte-refused (a / 8) (a % 8) (get_or image a 0) a low.1.fails).1 in
+        let same = ap number_of ((image_lowest image eighty).names a low.1) in
+        let more = (byte_refused (a / 8) (a % 8) (get_or image a 0) a low.1.fails).1 in
         omega arith
 
 -- refused for a bit that cannot be used exactly when all below are good and such a bit is set, printed or not
 pub image_reserved : (image : List ℕ) (a : ℕ)
     → (image_verdict image ≡ record { number = reserved; place = a }) ↔ (Reached image a × (usable_at image a ≡ false))
 image_reserved image a =
-    let refuses = image-refused image reserved a (lit< tt) in
-    let byte = byte-reserved (a / 8) (a % 8) (get_or image a 0) a in (
+    let refuses = image_refused image reserved a (lit< tt) in
+    let byte = byte_reserved (a / 8) (a % 8) (get_or image a 0) a in (
       λ e. let at = refuses.0 e in (at.0, byte.0 at.1),
       λ at. refuses.1 (at.0, byte.1 at.1),
     )
@@ -56,8 +56,8 @@ image_reserved image a =
 pub image_unprinted : (image : List ℕ) (a : ℕ)
     → (image_verdict image ≡ record { number = unprinted; place = a }) ↔ (Reached image a × (usable_at image a ≡ true) × (printed_at image a ≡ false))
 image_unprinted image a =
-    let refuses = image-refused image unprinted a (lit< tt) in
-    let byte = byte-unprinted (a / 8) (a % 8) (get_or image a 0) a in (
+    let refuses = image_refused image unprinted a (lit< tt) in
+    let byte = byte_unprinted (a / 8) (a % 8) (get_or image a 0) a in (
       λ e. let at = refuses.0 e in let both = byte.0 at.1 in (at.0, both.0, both.1),
       λ at. refuses.1 (at.0, byte.1 (at.1, at.2)),
     )
@@ -66,14 +66,14 @@ image_unprinted image a =
 pub image_answers : (image : List ℕ) → ImageAnswer (image_verdict image)
 image_answers image =
     elim (ℕ_discrete (image_verdict image).number 0) [
-      | yes pass ↦ ImageAnswer.accepts (image-zero image pass)
+      | yes pass ↦ ImageAnswer.accepts (image_zero image pass)
       | no refused ↦
           elim (ℕ_discrete (length image) 80) [
             | yes eighty ↦
-                let low = (image-lowest image eighty).refuses refused in
+                let low = (image_lowest image eighty).refuses refused in
                 let a = low.0 in
-                go a ((image-lowest image eighty).names a low.1) (byte-answer (a / 8) (a % 8) (get_or image a 0) a)
-            | no other ↦ ImageAnswer.wrong_length_refused (another-length image other)
+                go a ((image_lowest image eighty).names a low.1) (byte_answer (a / 8) (a % 8) (get_or image a 0) a)
+            | no other ↦ ImageAnswer.wrong_length_refused (another_length image other)
           ]
     ]
   where
@@ -86,14 +86,14 @@ image_answers image =
 -- accepted exactly when at every address some byte means the setting
 pub settings_accepted : (settings : Settings) → (settings_verdict settings ≡ accepted) ↔ MeantBelow settings 80
 settings_accepted settings =
-    let all = (settings-lowest settings).accepts in
-    (λ e. all.0 (ap number_of e), λ meant. settings-zero settings (all.1 meant))
+    let all = (settings_lowest settings).accepts in
+    (λ e. all.0 (ap number_of e), λ meant. settings_zero settings (all.1 meant))
 
 -- refused exactly at the lowest address whose setting no byte means
 pub settings_refused : (settings : Settings) (a : ℕ)
     → (settings_verdict settings ≡ record { number = out_of_range; place = a }) ↔ LowestLacking settings a
 settings_refused settings a =
-    let exactly = refused_exactly (settings-lowest settings) (λ i lacks. refl) out_of_range a (λ z. unlike z tt) in (
+    let exactly = refused_exactly (settings_lowest settings) (λ i lacks. refl) out_of_range a (λ z. unlike z tt) in (
       λ e.
           let low = (exactly.0 e).0 in
           record { inside = low.within; lacking = not_meant (setting_byte settings a) low.fails; below = low.before },
@@ -104,10 +104,10 @@ settings_refused settings a =
 pub settings_answers : (settings : Settings) → SettingsAnswer (settings_verdict settings)
 settings_answers settings =
     elim (ℕ_discrete (settings_verdict settings).number 0) [
-      | yes pass ↦ SettingsAnswer.accepts (settings-zero settings pass)
+      | yes pass ↦ SettingsAnswer.accepts (settings_zero settings pass)
       | no refused ↦
-          let low = (settings-lowest settings).refuses refused in
-          SettingsAnswer.out_of_range_refused low.0 ((settings-lowest settings).names low.0 low.1)
+          let low = (settings_lowest settings).refuses refused in
+          SettingsAnswer.out_of_range_refused low.0 ((settings_lowest settings).names low.0 low.1)
     ]
 
 -- ---- the writer's call
@@ -123,4 +123,4 @@ unfolding write_verdict first_refusal
 write_eighty settings buffer eighty =
     ap (λ (holds : Bool). or_else (refused_unless holds wrong_length 0) (or_else (settings_verdict settings) accepted)) (eq-eqb (length buffer) 80 eighty)
     ∙ or_else_pass accepted (or_else (settings_verdict settings) accepted) refl
-    ∙ or_else_end (settings_verdict settings) (settings-zero settings)
+    ∙ or_else_end (settings_verdict settings) (settings_zero settings)

@@ -54,31 +54,31 @@ module _ (k j b a : ℕ) where
   by_tests true false p q = ByteAnswer.code p q (rw (p, q))
   by_tests false is p q = ByteAnswer.bit p (rw p)
 
-  pub byte-answer : ByteAnswer k j b a (byte_verdict k j b a)
-  byte-answer = by_tests (usable k j b) (printed j b) refl refl
+  pub byte_answer : ByteAnswer k j b a (byte_verdict k j b a)
+  byte_answer = by_tests (usable k j b) (printed j b) refl refl
 
   -- what each answer says of the byte
-  pub byte-good : ((byte_verdict k j b a).number ≡ 0) ↔ GoodByte k j b
+  pub byte_good : ((byte_verdict k j b a).number ≡ 0) ↔ GoodByte k j b
   unfolding byte_verdict first_refusal or_else
-  byte-good = (only byte-answer, λ g. rw (g.can_be_used, g.is_printed))
+  byte_good = (only byte_answer, λ g. rw (g.can_be_used, g.is_printed))
     where
       only : {v : Verdict} → ByteAnswer k j b a v → v.number ≡ 0 → GoodByte k j b
       only (ByteAnswer.good g is) e = g
       only (ByteAnswer.bit can is) e = unlike (sym (ap number_of is) ∙ e) tt
       only (ByteAnswer.code can other is) e = unlike (sym (ap number_of is) ∙ e) tt
 
-  pub byte-reserved : (byte_verdict k j b a ≡ refused reserved a) ↔ (usable k j b ≡ false)
+  pub byte_reserved : (byte_verdict k j b a ≡ refused reserved a) ↔ (usable k j b ≡ false)
   unfolding byte_verdict first_refusal or_else
-  byte-reserved = (only byte-answer, λ can. rw can)
+  byte_reserved = (only byte_answer, λ can. rw can)
     where
       only : {v : Verdict} → ByteAnswer k j b a v → v ≡ refused reserved a → usable k j b ≡ false
       only (ByteAnswer.good g is) e = unlike (ap number_of (sym is ∙ e)) tt
       only (ByteAnswer.bit can is) e = can
       only (ByteAnswer.code can other is) e = unlike (ap number_of (sym is ∙ e)) tt
 
-  pub byte-unprinted : (byte_verdict k j b a ≡ refused unprinted a) ↔ ((usable k j b ≡ true) × (printed j b ≡ false))
+  pub byte_unprinted : (byte_verdict k j b a ≡ refused unprinted a) ↔ ((usable k j b ≡ true) × (printed j b ≡ false))
   unfolding byte_verdict first_refusal or_else
-  byte-unprinted = (only byte-answer, λ both. rw (both.0, both.1))
+  byte_unprinted = (only byte_answer, λ both. rw (both.0, both.1))
     where
       only : {v : Verdict} → ByteAnswer k j b a v → v ≡ refused unprinted a → (usable k j b ≡ true) × (printed j b ≡ false)
       only (ByteAnswer.good g is) e = unlike (ap number_of (sym is ∙ e)) tt
@@ -86,8 +86,8 @@ module _ (k j b a : ℕ) where
       only (ByteAnswer.code can other is) e = (can, other)
 
   -- a refusal has the byte's address as its place, and a number above 1
-  pub byte-refused : ¬ GoodByte k j b → ((byte_verdict k j b a).place ≡ a) × (1 < (byte_verdict k j b a).number)
-  byte-refused bad = go byte-answer
+  pub byte_refused : ¬ GoodByte k j b → ((byte_verdict k j b a).place ≡ a) × (1 < (byte_verdict k j b a).number)
+  byte_refused bad = go byte_answer
     where
       go : {v : Verdict} → ByteAnswer k j b a v → (v.place ≡ a) × (1 < v.number)
       go (ByteAnswer.good g is) = absurd (bad g)
@@ -97,49 +97,49 @@ module _ (k j b a : ℕ) where
 -- ---- an image's tests
 module _ (image : List ℕ) where
   -- number 0 comes with place 0
-  pub image-zero : (image_verdict image).number ≡ 0 → image_verdict image ≡ accepted
+  pub image_zero : (image_verdict image).number ≡ 0 → image_verdict image ≡ accepted
   unfolding image_verdict
-  image-zero = first_accepted (refused_unless (eqb (length image) 80) wrong_length 0 ∷ each (address_verdict image) 0 80)
+  image_zero = first_accepted (refused_unless (eqb (length image) 80) wrong_length 0 ∷ each (address_verdict image) 0 80)
 
-  pub another-length : ¬ (length image ≡ 80) → image_verdict image ≡ refused wrong_length 0
+  pub another_length : ¬ (length image ≡ 80) → image_verdict image ≡ refused wrong_length 0
   unfolding image_verdict first_refusal or_else
-  another-length other = rw (ne_eqb _ _ other)
+  another_length other = rw (ne_eqb _ _ other)
 
   -- any answer but that of another length comes from eighty bytes
-  pub eighty-of : ¬ ((image_verdict image).number ≡ wrong_length) → length image ≡ 80
-  eighty-of otherwise =
-      elim (ℕ_discrete (length image) 80) [ yes eighty ↦ eighty | no other ↦ absurd (otherwise (ap number_of (another-length other))) ]
+  pub eighty_of : ¬ ((image_verdict image).number ≡ wrong_length) → length image ≡ 80
+  eighty_of otherwise =
+      elim (ℕ_discrete (length image) 80) [ yes eighty ↦ eighty | no other ↦ absurd (otherwise (ap number_of (another_length other))) ]
 
   -- the byte at an address is good
   abbrev GoodAt : ℕ → Type 0
   GoodAt a = GoodByte (a / 8) (a % 8) (get_or image a 0)
 
-  passes-good : (a : ℕ) → ((address_verdict image a).number ≡ 0) ↔ GoodAt a
-  passes-good a = byte-good (a / 8) (a % 8) (get_or image a 0) a
+  passes_good : (a : ℕ) → ((address_verdict image a).number ≡ 0) ↔ GoodAt a
+  passes_good a = byte_good (a / 8) (a % 8) (get_or image a 0) a
 
   -- eighty bytes: accepted exactly where each is good; else the refusal of the lowest that is not
-  pub image-lowest : length image ≡ 80 → ShowsLowest (image_verdict image) (address_verdict image) 80 GoodAt
+  pub image_lowest : length image ≡ 80 → ShowsLowest (image_verdict image) (address_verdict image) 80 GoodAt
   unfolding image_verdict first_refusal or_else
-  image-lowest eighty = rw (eq-eqb _ _ eighty) (shows_lowest_of (address_verdict image) 80 GoodAt passes-good)
+  image_lowest eighty = rw (eq-eqb _ _ eighty) (shows_lowest_of (address_verdict image) 80 GoodAt passes_good)
 
   -- refused with any number but 1 exactly where the tests come to, and the byte there refuses so
-  pub image-refused : (number a : ℕ) → 1 < number
+  pub image_refused : (number a : ℕ) → 1 < number
       → (image_verdict image ≡ refused number a) ↔ (Reached image a × (address_verdict image a ≡ refused number a))
-  image-refused number a more = (only, when)
+  image_refused number a more = (only, when)
     where
       exactly : length image ≡ 80 → (image_verdict image ≡ refused number a) ↔ (LowestWithout GoodAt 80 a × (address_verdict image a ≡ refused number a))
       exactly eighty =
-          refused_exactly (image-lowest eighty) (λ i bad. (byte-refused (i / 8) (i % 8) (get_or image i 0) i bad).0) number a (λ z. omega arith)
+          refused_exactly (image_lowest eighty) (λ i bad. (byte_refused (i / 8) (i % 8) (get_or image i 0) i bad).0) number a (λ z. omega arith)
 
       only : image_verdict image ≡ refused number a → Reached image a × (address_verdict image a ≡ refused number a)
       only e =
-          let eighty = eighty-of (λ q. let same = ap number_of e in omega arith) in
+          let eighty = eighty_of (λ q. let same = ap number_of e in omega arith) in
           let at = (exactly eighty).0 e in
           (record { eighty = eighty; inside = at.0.within; below = at.0.before }, at.1)
 
       when : Reached image a × (address_verdict image a ≡ refused number a) → image_verdict image ≡ refused number a
       when at =
-          let bad : ¬ GoodAt a = λ good. let zero = sym (ap number_of at.1) ∙ (passes-good a).1 good in omega arith in
+          let bad : ¬ GoodAt a = λ good. let zero = sym (ap number_of at.1) ∙ (passes_good a).1 good in omega arith in
           (exactly at.0.eighty).1 (record { within = at.0.inside; fails = bad; before = at.0.below }, at.1)
 
 -- ---- one setting
@@ -154,14 +154,14 @@ not_meant Lacking lacks = refl
 -- ---- the tests of settings
 module _ (settings : Settings) where
   -- number 0 comes with place 0
-  pub settings-zero : (settings_verdict settings).number ≡ 0 → settings_verdict settings ≡ accepted
+  pub settings_zero : (settings_verdict settings).number ≡ 0 → settings_verdict settings ≡ accepted
   unfolding settings_verdict
-  settings-zero = first_accepted (each (λ a. code_verdict (setting_byte settings a) a) 0 80)
+  settings_zero = first_accepted (each (λ a. code_verdict (setting_byte settings a) a) 0 80)
 
   -- accepted exactly where some byte means each setting; else number 4 at the lowest that none means
-  pub settings-lowest : NamesLowest (settings_verdict settings) out_of_range 80 (λ a. ¬ (setting_byte settings a ≡ Lacking))
+  pub settings_lowest : NamesLowest (settings_verdict settings) out_of_range 80 (λ a. ¬ (setting_byte settings a ≡ Lacking))
   unfolding settings_verdict
-  settings-lowest =
+  settings_lowest =
       let all = shows_lowest_of (λ a. code_verdict (setting_byte settings a) a) 80 _ (λ a. code_meant (setting_byte settings a) a) in
       record {
         accepts = all.accepts;

@@ -110,14 +110,14 @@ module _ (k j : ℕ) where
   kept b e = rw e
 
   -- so that the lower is normal
-  lower-kept : (b : ℕ) (lower : Bool) → b % 2 ≡ 1 → twice (b - 1) ≡ lower → normal_byte k j (b - 1) ≡ b - 1
-  lower-kept b true odd e = let again = twice_odd k j (b - 1) e in omega arith
-  lower-kept b false odd e = kept (b - 1) e
+  lower_kept : (b : ℕ) (lower : Bool) → b % 2 ≡ 1 → twice (b - 1) ≡ lower → normal_byte k j (b - 1) ≡ b - 1
+  lower_kept b true odd e = let again = twice_odd k j (b - 1) e in omega arith
+  lower_kept b false odd e = kept (b - 1) e
 
   once : (b : ℕ) (lower : Bool) → twice b ≡ lower → normal_byte k j (normal_byte k j b) ≡ normal_byte k j b
   once b true e =
-      ap (normal_byte k j) (lowered b e) ∙ lower-kept b (twice (b - 1)) (twice_odd k j b e) refl ∙ sym (lowered b e)
+      ap (normal_byte k j) (lowered b e) ∙ lower_kept b (twice (b - 1)) (twice_odd k j b e) refl ∙ sym (lowered b e)
   once b false e = ap (normal_byte k j) (kept b e)
 
-  pub normal-once : (b : ℕ) → normal_byte k j (normal_byte k j b) ≡ normal_byte k j b
-  normal-once b = once b (twice b) refl
+  pub normal_once : (b : ℕ) → normal_byte k j (normal_byte k j b) ≡ normal_byte k j b
+  normal_once b = once b (twice b) refl

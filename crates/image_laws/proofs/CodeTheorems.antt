@@ -52,8 +52,8 @@ module _ (table : List ℕ) (value : ℕ) where
   finds code (View.miss none is) low = absurd (none code low.inside low.means)
 
   -- a look-up answers the lowest code of its value
-  pub lookup-is : (code : ℕ) → (lookup table value ≡ Is code) ↔ LowestCode table 0 all_printed value code
-  lookup-is code = (found code (view 0 table value), finds code (view 0 table value))
+  pub lookup_is : (code : ℕ) → (lookup table value ≡ Is code) ↔ LowestCode table 0 all_printed value code
+  lookup_is code = (found code (view 0 table value), finds code (view 0 table value))
 
   lacked : View 0 table value → lookup table value ≡ Lacking → (c : ℕ) → c < length table → ¬ (get_or table c 0 ≡ value)
   lacked (View.hit c inside same before is) e = absurd (never_lacking (sym is ∙ e))
@@ -64,8 +64,8 @@ module _ (table : List ℕ) (value : ℕ) where
   lacks (View.miss none is) _ = is
 
   -- a look-up lacks a code for just the values that the table lacks
-  pub lookup-lacking : (lookup table value ≡ Lacking) ↔ ((c : ℕ) → c < length table → ¬ (get_or table c 0 ≡ value))
-  lookup-lacking = (lacked (view 0 table value), lacks (view 0 table value))
+  pub lookup_lacking : (lookup table value ≡ Lacking) ↔ ((c : ℕ) → c < length table → ¬ (get_or table c 0 ≡ value))
+  lookup_lacking = (lacked (view 0 table value), lacks (view 0 table value))
 
 -- the look-up of an entry finds the entry's own code
 abbrev own : List ℕ → ℕ → Bool
@@ -86,16 +86,16 @@ pulse_code = inverse pulses refl
 -- ---- named kinds
 module _ {A : Type 0} (table : List A) (first : A) (printed : ℕ → Bool) (code_of : A → ℕ) where
   -- the code of each printed code's meaning is no higher
-  abbrev noHigher : ℕ → Bool
-  noHigher c = not (printed c) || leb (code_of (get_or table c first)) c
+  abbrev no_higher : ℕ → Bool
+  no_higher c = not (printed c) || leb (code_of (get_or table c first)) c
 
   -- the code of a meaning is in the table and printed, and has the meaning
   abbrev Listed : A → Type 0
   Listed meaning = ((ltb (code_of meaning) (length table) && printed (code_of meaning)) ≡ true) × (get_or table (code_of meaning) first ≡ meaning)
 
-  lowest-code : everywhere noHigher (length table) ≡ true → ((meaning : A) → Listed meaning)
+  lowest_code : everywhere no_higher (length table) ≡ true → ((meaning : A) → Listed meaning)
       → (meaning : A) → LowestCode table first printed meaning (code_of meaning)
-  lowest-code holds listed meaning =
+  lowest_code holds listed meaning =
       let both = (and-eq-true_iff (ltb (code_of meaning) (length table)) (printed (code_of meaning))).0 (listed meaning).0 in
       record {
         inside = ltb-true _ _ both.0;
@@ -103,7 +103,7 @@ module _ {A : Type 0} (table : List A) (first : A) (printed : ℕ → Bool) (cod
         means = (listed meaning).1;
         lowest = λ c below is means.
             subst (λ (a : A). code_of a ≤ c) means
-            (leb-true _ _ (rw is at (at_each noHigher (length table) holds c below)));
+            (leb-true _ _ (rw is at (at_each no_higher (length table) holds c below)));
       }
 
 fault_listed : (faults : FaultType) → Listed fault_types Over all_printed fault_code faults
@@ -114,7 +114,7 @@ fault_listed Off = (refl, refl)
 
 -- the code of a fault type is the lowest that means it
 pub fault_code_lem : (faults : FaultType) → LowestCode fault_types Over all_printed faults (fault_code faults)
-fault_code_lem = lowest-code fault_types Over all_printed fault_code refl fault_listed
+fault_code_lem = lowest_code fault_types Over all_printed fault_code refl fault_listed
 
 source_listed : (source : Source) → Listed sources Disabled source_printed source_code source
 source_listed Disabled = (refl, refl)
@@ -124,7 +124,7 @@ source_listed DrivenHigh = (refl, refl)
 
 -- the code of an output's source is the lowest printed one that means it
 pub source_code_lem : (source : Source) → LowestCode sources Disabled source_printed source (source_code source)
-source_code_lem = lowest-code sources Disabled source_printed source_code refl source_listed
+source_code_lem = lowest_code sources Disabled source_printed source_code refl source_listed
 
 pull_listed : (pull : Pull) → Listed pulls Unpulled pull_printed pull_code pull
 pull_listed Unpulled = (refl, refl)
@@ -142,4 +142,4 @@ pull_listed PushPullVddcap = (refl, refl)
 
 -- the code of a pull-up is the lowest printed one that means it
 pub pull_code_lem : (pull : Pull) → LowestCode pulls Unpulled pull_printed pull (pull_code pull)
-pull_code_lem = lowest-code pulls Unpulled pull_printed pull_code refl pull_listed
+pull_code_lem = lowest_code pulls Unpulled pull_printed pull_code refl pull_listed

@@ -53,33 +53,33 @@ like k =
     ]
 
 module _ {k m : ℕ} (same : Same k m) where
-  pub inputCode-same : (input : Input) → input_code k input ≡ input_code m input
-  inputCode-same VpMid = rw same.vp
-  inputCode-same VpLow = rw same.vp
-  inputCode-same VpUltralow = rw same.vp
-  inputCode-same VhLow = rw same.vh
-  inputCode-same VhHigh = rw same.vh
-  inputCode-same AnalogFault = rw same.vx
-  inputCode-same LogicFault = rw same.vx
-  inputCode-same LogicFaultAnalogWarning = rw same.vx
-  inputCode-same NoFunction = rw same.vx
+  pub input_code_same : (input : Input) → input_code k input ≡ input_code m input
+  input_code_same VpMid = rw same.vp
+  input_code_same VpLow = rw same.vp
+  input_code_same VpUltralow = rw same.vp
+  input_code_same VhLow = rw same.vh
+  input_code_same VhHigh = rw same.vh
+  input_code_same AnalogFault = rw same.vx
+  input_code_same LogicFault = rw same.vx
+  input_code_same LogicFaultAnalogWarning = rw same.vx
+  input_code_same NoFunction = rw same.vx
 
-  pub inputOf-same : (b : ℕ) → input_of k b ≡ input_of m b
+  pub input_of_same : (b : ℕ) → input_of k b ≡ input_of m b
   unfolding input_of
-  inputOf-same b = rw (same.vp, same.vh)
+  input_of_same b = rw (same.vp, same.vh)
 
-  pub reserved-same : (j : ℕ) → reserved_from k j ≡ reserved_from m j
+  pub reserved_same : (j : ℕ) → reserved_from k j ≡ reserved_from m j
   unfolding reserved_from
-  reserved-same j = rw (same.vh, same.vx)
+  reserved_same j = rw (same.vh, same.vx)
 
-  pub normal-same : (j b : ℕ) → normal_byte k j b ≡ normal_byte m j b
+  pub normal_same : (j b : ℕ) → normal_byte k j b ≡ normal_byte m j b
   unfolding normal_byte range_twice
-  normal-same j b = rw same.vp
+  normal_same j b = rw same.vp
 
-  pub logicOf-same : (b : ℕ) → logic_of k b ≡ logic_of m b
+  pub logic_of_same : (b : ℕ) → logic_of k b ≡ logic_of m b
   unfolding logic_of
-  logicOf-same b = rw same.vx
+  logic_of_same b = rw same.vx
 
-  pub logicByte-same : (logic : Logic) → logic_byte k logic ≡ logic_byte m logic
+  pub logic_byte_same : (logic : Logic) → logic_byte k logic ≡ logic_byte m logic
   unfolding logic_byte
-  logicByte-same logic = rw same.vx
+  logic_byte_same logic = rw same.vx

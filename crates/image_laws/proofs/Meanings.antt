@@ -19,7 +19,7 @@ use Rattle.image.specs.declared.Settings.{Settings}
 use Rattle.image_laws.proofs.TableLaws.{never_lacking}
 use Rattle.records.proofs.VerdictLaws.{number_of}
 use Rattle.image_laws.proofs.Refusals.{image_length}
-use Rattle.image_laws.proofs.RoundTripLaws.{meant-at}
+use Rattle.image_laws.proofs.RoundTripLaws.{meant_at}
 use Rattle.image_laws.proofs.RoundTrip.{image_of_accepted, settings_of_image_of, settings_of_accepted}
 use Rattle.image_laws.proofs.ByteLaws.{eight}
 use Rattle.records.proofs.Every.{Bytes}
@@ -76,27 +76,27 @@ abbrev pub NoneMeans : ℕ → ℕ → Group → Type 0
 NoneMeans k j g = (bytes : List ℕ) → get_or bytes j 0 < 256 → GoodByte k j (get_or bytes j 0) → ¬ SameAt j (group_of k bytes) g
 
 module _ (k j : ℕ) (inside : j < 8) (g : Group) where
-  lacking-none : get_or (group_bytes k g) j Lacking ≡ Lacking → NoneMeans k j g
-  lacking-none lacking bytes byte good same =
+  lacking_none : get_or (group_bytes k g) j Lacking ≡ Lacking → NoneMeans k j g
+  lacking_none lacking bytes byte good same =
       never_lacking
       (sym (read_write k bytes j inside byte good.can_be_used good.is_printed) ∙ same_byte k (group_of k bytes) g j inside same ∙ lacking)
 
-  none-lacking : g.over.level < 256 → g.under.level < 256 → NoneMeans k j g
+  none_lacking : g.over.level < 256 → g.under.level < 256 → NoneMeans k j g
       → (code : Code) → get_or (group_bytes k g) j Lacking ≡ code → code ≡ Lacking
-  none-lacking over under none (Is b) e =
+  none_lacking over under none (Is b) e =
       let here : get_or (replicate 8 b) j 0 ≡ b = get_or-replicate 8 j b 0 inside in
       absurd
       (none (replicate 8 b) (rw here (write_byte k g over under j inside b e)) (rw here (write_good k g j inside b e)) (byte_means k g b j inside e))
-  none-lacking over under none Lacking e = refl
+  none_lacking over under none Lacking e = refl
 
 -- "any setting that no byte of its group can mean": a setting lacks a byte exactly when no good byte at its address means it
 pub setting_lacking : (settings : Settings) → Typed settings → (a : ℕ)
     → (setting_byte settings a ≡ Lacking) ↔ NoneMeans (a / 8) (a % 8) (group_at settings (a / 8))
 unfolding setting_byte
 setting_lacking settings typed a = (
-  lacking-none (a / 8) (a % 8) (omega arith) (group_at settings (a / 8)),
+  lacking_none (a / 8) (a % 8) (omega arith) (group_at settings (a / 8)),
   λ none.
-      none-lacking (a / 8) (a % 8) (omega arith) (group_at settings (a / 8)) (typed.over (a / 8)) (typed.under (a / 8)) none
+      none_lacking (a / 8) (a % 8) (omega arith) (group_at settings (a / 8)) (typed.over (a / 8)) (typed.under (a / 8)) none
       (setting_byte settings a) refl,
 )
 
@@ -107,7 +107,7 @@ image_bytes settings typed pass a =
     elim (dec_lt a 80) [
       | yes inside ↦
           write_byte (a / 8) (group_at settings (a / 8)) (typed.over (a / 8)) (typed.under (a / 8)) (a % 8) (omega arith)
-          (get_or (image_of settings) a 0) (meant-at settings pass a inside)
+          (get_or (image_of settings) a 0) (meant_at settings pass a inside)
       | no outside ↦ rw (get_or-eq_default (image_of settings) 0 {n = a} (rw (image_length settings) (omega arith))) (lit< tt)
     ]
 

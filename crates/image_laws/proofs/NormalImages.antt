@@ -8,13 +8,13 @@ use native.Mathlib.Omega.{arith}
 use lib.ListN.{get_or}
 use Rattle.records.specs.Lists.{each}
 use Rattle.records.specs.Verdicts.{accepted}
-use Rattle.records.proofs.ListLaws.{each_at, each-ext}
+use Rattle.records.proofs.ListLaws.{each_at, each_ext}
 use Rattle.image.specs.Reading.{image_verdict, settings_of}
 use Rattle.writing.specs.Writing.{image_of}
 use Rattle.image.specs.Normal.{normal_byte, normal}
 use Rattle.records.proofs.VerdictLaws.{number_of}
 use Rattle.records.proofs.Every.{Bytes}
-use Rattle.image_laws.proofs.ByteLaws.{normal_le, normal-once}
+use Rattle.image_laws.proofs.ByteLaws.{normal_le, normal_once}
 use Rattle.image_laws.proofs.RoundTrip.{settings_ten, image_of_accepted, settings_of_image_of, settings_of_accepted, image_of_settings_of}
 
 normal_at : (image : List ℕ) (a : ℕ) → a < 80 → get_or (normal image) a 0 ≡ normal_byte (a / 8) (a % 8) (get_or image a 0)
@@ -29,9 +29,9 @@ unfolding normal
 normal_twice image =
     let f : ℕ → ℕ = λ a. normal_byte (a / 8) (a % 8) (get_or image a 0) in
     let g : ℕ → ℕ = λ a. normal_byte (a / 8) (a % 8) (get_or (each f 0 80) a 0) in
-    each-ext g f 0 80 λ a inside.
+    each_ext g f 0 80 λ a inside.
     ap (normal_byte ((0 + a) / 8) ((0 + a) % 8)) (normal_at image (0 + a) (omega arith))
-    ∙ normal-once ((0 + a) / 8) ((0 + a) % 8) (get_or image (0 + a) 0)
+    ∙ normal_once ((0 + a) / 8) ((0 + a) % 8) (get_or image (0 + a) 0)
 
 -- the normal bytes of an accepted image are accepted
 pub normal_accepted : (image : List ℕ) → Bytes image → (image_verdict image).number ≡ 0 → image_verdict (normal image) ≡ accepted

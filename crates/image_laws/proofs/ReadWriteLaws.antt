@@ -12,7 +12,7 @@ use Rattle.image.specs.Normal.{normal_byte, range_twice, pull_twice}
 use Rattle.image.specs.declared.Code.{Code}
 use Rattle.image.specs.declared.Code.TheVariants.{Is, Lacking}
 use Rattle.image_laws.proofs.TableLaws.{everywhere, at_each, is_code, is_code_lem}
-use Rattle.image_laws.proofs.GroupLaws.{Same, Like, like, inputCode-same, inputOf-same, logicByte-same, logicOf-same, reserved-same, normal-same}
+use Rattle.image_laws.proofs.GroupLaws.{Same, Like, like, input_code_same, input_of_same, logic_byte_same, logic_of_same, reserved_same, normal_same}
 use Rattle.image_laws.proofs.ByteLaws.{eight, usable_below}
 
 -- byte j of what a group of eight bytes b means
@@ -51,13 +51,13 @@ again_same : {k m : ℕ} → Same k m → (b j : ℕ) → j < 8 → again k j b 
 unfolding again group_bytes group_of threshold_of timing_byte
 again_same {k} {m} same b =
     eight (λ j. again k j b ≡ again m j b) refl refl refl refl refl
-    (inputCode-same same (input_of k b) ∙ ap (input_code m) (inputOf-same same b))
-    (logicByte-same same (logic_of k b) ∙ ap (logic_byte m) (logicOf-same same b))
+    (input_code_same same (input_of k b) ∙ ap (input_code m) (input_of_same same b))
+    (logic_byte_same same (logic_of k b) ∙ ap (logic_byte m) (logic_of_same same b))
     refl
 
 settled_same : {k m : ℕ} → Same k m → Settled m → Settled k
 settled_same {k} {m} same settles j inside b below is =
-    again_same same b j inside ∙ settles j inside b (rw (reserved-same same j) at below) is ∙ ap Is (sym (normal-same same j b))
+    again_same same b j inside ∙ settles j inside b (rw (reserved_same same j) at below) is ∙ ap Is (sym (normal_same same j b))
 
 settled_like : {k : ℕ} → Like k → Settled k
 settled_like (Like.vp same) = settled_same same (settled_at 0 settled_all.0)

@@ -23,10 +23,10 @@ use Rattle.image.specs.declared.Logic.{Logic}
 use Rattle.image.specs.declared.Output.{Output}
 use Rattle.image.specs.declared.Group.{Group}
 use Rattle.image_laws.proofs.TableLaws.{never_lacking}
-use Rattle.image_laws.proofs.GroupLaws.{Same, Like, like, same_vp, same_vh, same_vx, inputOf-same, logicOf-same, logicByte-same, reserved-same}
+use Rattle.image_laws.proofs.GroupLaws.{Same, Like, like, same_vp, same_vh, same_vx, input_of_same, logic_of_same, logic_byte_same, reserved_same}
 use Rattle.image_laws.proofs.ByteLaws.{eight, below_byte, below_usable}
 use Rattle.image_laws.proofs.Conditions.{GoodByte}
-use Rattle.image_laws.proofs.CodeTheorems.{all_printed, LowestCode, lookup-is, fault_code_lem, source_code_lem, pull_code_lem}
+use Rattle.image_laws.proofs.CodeTheorems.{all_printed, LowestCode, lookup_is, fault_code_lem, source_code_lem, pull_code_lem}
 
 -- ---- codes
 -- a code where a test holds
@@ -62,7 +62,7 @@ pub timing_back : (group : Group) (b : ℕ) → timing_byte group ≡ Is b
 unfolding timing_byte bits
 timing_back group b e =
     let p = parts (lookup times group.delay) 2 (Is (fault_code group.faults)) b e in
-    let time = (lookup-is times group.delay p.above).0 p.is_above in
+    let time = (lookup_is times group.delay p.above).0 p.is_above in
     let faults = fault_code_lem group.faults in
     let code : ℕ = p.above in
     let type : ℕ = fault_code group.faults in
@@ -80,7 +80,7 @@ input_own : (k m code b : ℕ) (own : Bool) → (own ≡ true → Same k m) → 
 input_own k m code b own kind small e =
     let is = given own code b e in
     let same = kind is.0 in
-    (inputOf-same same b ∙ ap (input_of m) (sym is.1), rw (reserved-same same 5, ← is.1) small)
+    (input_of_same same b ∙ ap (input_of m) (sym is.1), rw (reserved_same same 5, ← is.1) small)
 
 pub input_back : (k : ℕ) (input : Input) (b : ℕ) → input_code k input ≡ Is b → (input_of k b ≡ input) × (b < 2 ^ reserved_from k 5)
 unfolding input_of bits reserved_from
@@ -134,8 +134,8 @@ pin_logic_back logic b e =
     let r = parts (lookup pulses logic.pulse) 3 (lookup times logic.delay) q.below q.is_below in
     let one : p.above ≡ flag logic.invert = sym (ap code_value p.is_above) in
     let two : q.above ≡ flag logic.edge = sym (ap code_value q.is_above) in
-    fields_back logic b r.above r.below ((lookup-is pulses logic.pulse r.above).0 r.is_above)
-    ((lookup-is times logic.delay r.below).0 r.is_below) (omega (arith, p.sum, q.sum, r.sum))
+    fields_back logic b r.above r.below ((lookup_is pulses logic.pulse r.above).0 r.is_above)
+    ((lookup_is times logic.delay r.below).0 r.is_below) (omega (arith, p.sum, q.sum, r.sum))
 
 neither : (a b : Bool) → (a || b) ≡ false → (a ≡ false) × (b ≡ false)
 neither true b e = absurd (false≢true (sym e))
@@ -168,8 +168,8 @@ LogicBack k logic b = logic_byte k logic ≡ Is b → (logic_of k b ≡ logic) �
 
 logic_like : (k m : ℕ) (logic : Logic) (b : ℕ) → Same k m → LogicBack m logic b → LogicBack k logic b
 logic_like k m logic b same back e =
-    let is = back (sym (logicByte-same same logic) ∙ e) in
-    (logicOf-same same b ∙ is.0, rw (reserved-same same 6) is.1)
+    let is = back (sym (logic_byte_same same logic) ∙ e) in
+    (logic_of_same same b ∙ is.0, rw (reserved_same same 6) is.1)
 
 logic_in : (k : ℕ) (logic : Logic) (b : ℕ) → Like k → LogicBack k logic b
 unfolding logic_byte logic_of reserved_from

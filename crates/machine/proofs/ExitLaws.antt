@@ -11,21 +11,21 @@ use Rattle.machine.specs.declared.Exit.TheVariants.{Stay, Fault, Sequence, Timeo
 
 -- ---- which exit the three tests lead to
 module _ (node : Node) (elapsed word : ℕ) where
-  pub exit-fault : shares node word ≡ true → exit_of node elapsed word ≡ Fault
+  pub exit_fault : shares node word ≡ true → exit_of node elapsed word ≡ Fault
   unfolding exit_of
-  exit-fault s = rw s
+  exit_fault s = rw s
 
-  pub exit-sequence : shares node word ≡ false → met node word ≡ true → exit_of node elapsed word ≡ Sequence
+  pub exit_sequence : shares node word ≡ false → met node word ≡ true → exit_of node elapsed word ≡ Sequence
   unfolding exit_of
-  exit-sequence s m = rw (s, m)
+  exit_sequence s m = rw (s, m)
 
-  pub exit-timeout : shares node word ≡ false → met node word ≡ false → due node elapsed ≡ true → exit_of node elapsed word ≡ Timeout
+  pub exit_timeout : shares node word ≡ false → met node word ≡ false → due node elapsed ≡ true → exit_of node elapsed word ≡ Timeout
   unfolding exit_of
-  exit-timeout s m d = rw (s, m, d)
+  exit_timeout s m d = rw (s, m, d)
 
-  pub exit-stay : shares node word ≡ false → met node word ≡ false → due node elapsed ≡ false → exit_of node elapsed word ≡ Stay
+  pub exit_stay : shares node word ≡ false → met node word ≡ false → due node elapsed ≡ false → exit_of node elapsed word ≡ Stay
   unfolding exit_of
-  exit-stay s m d = rw (s, m, d)
+  exit_stay s m d = rw (s, m, d)
 
 -- a tick that stays was not due
 not_due : (s m d : Bool) → cond s Fault (cond m Sequence (cond d Timeout Stay)) ≡ Stay → d ≡ false

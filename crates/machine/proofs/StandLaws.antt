@@ -8,7 +8,7 @@ use borrow.Author.Tests.{eq-eqb, ne_eqb, le-leb, lt-leb}
 use Rattle.machine.specs.Machine.{shares, met, due, enter, stay, after, tick_on}
 use Rattle.machine.specs.declared.Node.{Node}
 use Rattle.machine.specs.declared.State.{State}
-use Rattle.machine.proofs.ExitLaws.{exit-fault, exit-sequence, exit-timeout, exit-stay}
+use Rattle.machine.proofs.ExitLaws.{exit_fault, exit_sequence, exit_timeout, exit_stay}
 
 -- ---- a state by its parts
 
@@ -20,26 +20,26 @@ state_path p q i = record { at = p i; elapsed = q i }
 
 module _ (node : Node) (word : ℕ) (state : State) where
   -- "if w shares a bit with the mask, take the fault exit"
-  pub after-fault : shares node word ≡ true → after node word state ≡ enter node.faultto
+  pub after_fault : shares node word ≡ true → after node word state ≡ enter node.faultto
   unfolding after
-  after-fault s = rw (exit-fault node state.elapsed word s)
+  after_fault s = rw (exit_fault node state.elapsed word s)
 
   -- "else if the channel's bit ... equals the level, the sequence exit"
-  pub after-sequence : shares node word ≡ false → met node word ≡ true → after node word state ≡ enter node.sequenceto
+  pub after_sequence : shares node word ≡ false → met node word ≡ true → after node word state ≡ enter node.sequenceto
   unfolding after
-  after-sequence s m = rw (exit-sequence node state.elapsed word s m)
+  after_sequence s m = rw (exit_sequence node state.elapsed word s m)
 
   -- "else if the timeout is not 0 and elapsed + 1 reaches it, the timeout exit"
-  pub after-timeout : shares node word ≡ false → met node word ≡ false → due node state.elapsed ≡ true
+  pub after_timeout : shares node word ≡ false → met node word ≡ false → due node state.elapsed ≡ true
       → after node word state ≡ enter node.timeoutto
   unfolding after
-  after-timeout s m d = rw (exit-timeout node state.elapsed word s m d)
+  after_timeout s m d = rw (exit_timeout node state.elapsed word s m d)
 
   -- else it stays
-  pub after-stay : shares node word ≡ false → met node word ≡ false → due node state.elapsed ≡ false
+  pub after_stay : shares node word ≡ false → met node word ≡ false → due node state.elapsed ≡ false
       → after node word state ≡ stay node state
   unfolding after
-  after-stay s m d = rw (exit-stay node state.elapsed word s m d)
+  after_stay s m d = rw (exit_stay node state.elapsed word s m d)
 
 -- ---- due, and staying, in numbers
 
@@ -67,16 +67,16 @@ stay_rests node state absent = rw (eq-eqb node.timeout 0 absent)
 
 module _ (node : Node) (word : ℕ) (state : State) (s : shares node word ≡ false) (m : met node word ≡ false) where
   -- "stays 0 without a timeout"
-  pub quiet-rests : node.timeout ≡ 0 → after node word state ≡ record { at = state.at; elapsed = 0 }
-  quiet-rests absent = after-stay node word state s m (due_absent node state.elapsed absent) ∙ stay_rests node state absent
+  pub quiet_rests : node.timeout ≡ 0 → after node word state ≡ record { at = state.at; elapsed = 0 }
+  quiet_rests absent = after_stay node word state s m (due_absent node state.elapsed absent) ∙ stay_rests node state absent
 
   -- "elapsed rises by one"
-  pub quiet-rises : state.elapsed + 1 < node.timeout → after node word state ≡ record { at = state.at; elapsed = state.elapsed + 1 }
-  quiet-rises early = after-stay node word state s m (due_not_yet node state.elapsed early) ∙ stay_rises node state (omega arith)
+  pub quiet_rises : state.elapsed + 1 < node.timeout → after node word state ≡ record { at = state.at; elapsed = state.elapsed + 1 }
+  quiet_rises early = after_stay node word state s m (due_not_yet node state.elapsed early) ∙ stay_rises node state (omega arith)
 
   -- "the timeout is not 0 and elapsed + 1 reaches it"
-  pub quiet-ends : 0 < node.timeout → node.timeout ≤ state.elapsed + 1 → after node word state ≡ enter node.timeoutto
-  quiet-ends present reached = after-timeout node word state s m (due_reached node state.elapsed present reached)
+  pub quiet_ends : 0 < node.timeout → node.timeout ≤ state.elapsed + 1 → after node word state ≡ enter node.timeoutto
+  quiet_ends present reached = after_timeout node word state s m (due_reached node state.elapsed present reached)
 
 -- ---- standing in range
 
@@ -99,12 +99,12 @@ pub record AbsentExits (node : Node) : Type 0 where
 
 module _ (nodes : ℕ → Node) (count : ℕ) where
   -- "Any exit sets elapsed to 0", so a state just entered stands where its node is there
-  pub enter-stands : (to : ℕ) → to < count → Stands nodes count (enter to)
-  enter-stands to h = record { within = h; early = omega arith }
+  pub enter_stands : (to : ℕ) → to < count → Stands nodes count (enter to)
+  enter_stands to h = record { within = h; early = omega arith }
 
-  stay-stands : (state : State) → Stands nodes count state → due (nodes state.at) state.elapsed ≡ false
+  stay_stands : (state : State) → Stands nodes count state → due (nodes state.at) state.elapsed ≡ false
       → Stands nodes count (stay (nodes state.at) state)
-  stay-stands state stands undue =
+  stay_stands state stands undue =
       elim (ℕ_discrete (nodes state.at).timeout 0) [
         | yes z ↦ subst (Stands nodes count) (sym (stay_rests (nodes state.at) state z)) (record { within = stands.within; early = omega arith })
         | no z ↦ subst (Stands nodes count) (sym (stay_rises (nodes state.at) state (omega arith)))
@@ -119,19 +119,19 @@ module _ (nodes : ℕ → Node) (count : ℕ) where
           ]
 
   -- a tick goes from a state that stands to one that stands
-  pub tick-stands : ((k : ℕ) → k < count → Leads count (nodes k)) → (word : ℕ) (state : State) → Stands nodes count state
+  pub tick_stands : ((k : ℕ) → k < count → Leads count (nodes k)) → (word : ℕ) (state : State) → Stands nodes count state
       → Stands nodes count (tick_on nodes word state)
   unfolding tick_on
-  tick-stands leads word state stands = split (shares node word) refl (met node word) refl (due node state.elapsed) refl
+  tick_stands leads word state stands = split (shares node word) refl (met node word) refl (due node state.elapsed) refl
     where
       node : Node
       node = nodes state.at
 
       split : (s : Bool) → shares node word ≡ s → (m : Bool) → met node word ≡ m → (d : Bool) → due node state.elapsed ≡ d
           → Stands nodes count (after node word state)
-      split true s m e d f = subst (Stands nodes count) (sym (after-fault node word state s)) (enter-stands _ (leads _ stands.within).fault)
+      split true s m e d f = subst (Stands nodes count) (sym (after_fault node word state s)) (enter_stands _ (leads _ stands.within).fault)
       split false s true e d f =
-          subst (Stands nodes count) (sym (after-sequence node word state s e)) (enter-stands _ (leads _ stands.within).sequence)
+          subst (Stands nodes count) (sym (after_sequence node word state s e)) (enter_stands _ (leads _ stands.within).sequence)
       split false s false e true f =
-          subst (Stands nodes count) (sym (after-timeout node word state s e f)) (enter-stands _ (leads _ stands.within).timeout)
-      split false s false e false f = subst (Stands nodes count) (sym (after-stay node word state s e f)) (stay-stands state stands f)
+          subst (Stands nodes count) (sym (after_timeout node word state s e f)) (enter_stands _ (leads _ stands.within).timeout)
+      split false s false e false f = subst (Stands nodes count) (sym (after_stay node word state s e f)) (stay_stands state stands f)

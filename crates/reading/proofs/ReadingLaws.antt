@@ -12,7 +12,7 @@ use Rattle.records.specs.Lists.{each}
 use Rattle.records.specs.Numbers.{wrong_length}
 use Rattle.records.specs.Verdicts.{refused, refused_unless, or_else, first_refusal}
 use Rattle.records.specs.declared.Verdict.{Verdict}
-use Rattle.records.proofs.ListLaws.{get_d_default, each-length, each-ext, each-record}
+use Rattle.records.proofs.ListLaws.{get_d_default, each_length, each_ext, each_record}
 use Rattle.records.proofs.VerdictLaws.{unless_zero, or_else_pass, or_else_hit, or_else_zero, first_cons, first_records}
 use Rattle.image.specs.Groups.{is_vh, is_vx, part}
 use Rattle.image.specs.Reading.{reserved_from, byte_verdict, part_verdict, address_verdict, image_verdict, group_of, zero_group, zero_settings}
@@ -78,15 +78,15 @@ part_addresses : (image : List ℕ) (k : ℕ) → first_refusal (each (address_v
 unfolding part_verdict
 part_addresses image k =
     ap first_refusal
-    (each-record (λ q r a. byte_verdict q r (get_or image a 0) a) 8 k
-    ∙ each-ext _ _ 0 8 (λ j h. ap (λ (b : ℕ). byte_verdict k (0 + j) b (8 * k + (0 + j))) (sym (part_at image k (0 + j) (omega arith)))))
+    (each_record (λ q r a. byte_verdict q r (get_or image a 0) a) 8 k
+    ∙ each_ext _ _ 0 8 (λ j h. ap (λ (b : ℕ). byte_verdict k (0 + j) b (8 * k + (0 + j))) (sym (part_at image k (0 + j) (omega arith)))))
 
 pub image_parts : (image : List ℕ)
     → image_verdict image ≡ or_else (refused_unless (eqb (length image) 80) wrong_length 0) (first_refusal (each (group_test image) 0 10))
 unfolding image_verdict
 image_parts image =
     first_cons _ _
-    ∙ ap (or_else _) (first_records (address_verdict image) 8 0 10 ∙ ap first_refusal (each-ext _ _ 0 10 (λ k h. part_addresses image (0 + k))))
+    ∙ ap (or_else _) (first_records (address_verdict image) 8 0 10 ∙ ap first_refusal (each_ext _ _ 0 10 (λ k h. part_addresses image (0 + k))))
 
 pub image_whole : (image : List ℕ) → length image ≡ 80 → image_verdict image ≡ first_refusal (each (group_test image) 0 10)
 image_whole image h = image_parts image ∙ or_else_pass _ _ (rw (eq-eqb _ _ h))
@@ -107,4 +107,4 @@ group_at image k = group_of k (part image k)
 
 pub zero_ten : (settings : Settings) → settings ≡ zero_settings → length settings.groups ≡ 10
 unfolding zero_settings
-zero_ten settings is = ap (λ (s : Settings). length s.groups) is ∙ each-length zero_group 0 10
+zero_ten settings is = ap (λ (s : Settings). length s.groups) is ∙ each_length zero_group 0 10

@@ -21,20 +21,20 @@ use Rattle.recordings.specs.Recordings.{image_then, detected_after, recording_ve
 -- ---- the image's tests, then another length
 
 module _ (image : List ℕ) where
-  pub then-image : (right : Bool) → ¬ ((image_verdict image).number ≡ 0) → image_then image right ≡ image_verdict image
+  pub then_image : (right : Bool) → ¬ ((image_verdict image).number ≡ 0) → image_then image right ≡ image_verdict image
   unfolding image_then
-  then-image right bad = first_cons _ _ ∙ or_else_hit _ _ bad
+  then_image right bad = first_cons _ _ ∙ or_else_hit _ _ bad
 
   module _ (good : (image_verdict image).number ≡ 0) where
     by_length : (right : Bool) → image_then image right ≡ refused_unless right wrong_length 0
     unfolding image_then
     by_length right = first_cons _ _ ∙ or_else_pass _ _ good ∙ first_last right wrong_length 0 (λ none. omega arith)
 
-    pub then-right : (a b : ℕ) → a ≡ b → image_then image (eqb a b) ≡ accepted
-    then-right a b same = by_length (eqb a b) ∙ ap (λ (right : Bool). refused_unless right wrong_length 0) (eq-eqb a b same)
+    pub then_right : (a b : ℕ) → a ≡ b → image_then image (eqb a b) ≡ accepted
+    then_right a b same = by_length (eqb a b) ∙ ap (λ (right : Bool). refused_unless right wrong_length 0) (eq-eqb a b same)
 
-    pub then-wrong : (a b : ℕ) → ¬ (a ≡ b) → image_then image (eqb a b) ≡ refused wrong_length 0
-    then-wrong a b other = by_length (eqb a b) ∙ ap (λ (right : Bool). refused_unless right wrong_length 0) (ne_eqb a b other)
+    pub then_wrong : (a b : ℕ) → ¬ (a ≡ b) → image_then image (eqb a b) ≡ refused wrong_length 0
+    then_wrong a b other = by_length (eqb a b) ∙ ap (λ (right : Bool). refused_unless right wrong_length 0) (ne_eqb a b other)
 
 -- ---- a recording
 
@@ -60,12 +60,12 @@ module _ (settings : Settings) (recording : List ℕ) where
       ap (λ (holds : Bool). cond holds (engine_ticked settings (detected_after settings recording n).bank (take 220 (drop (220 * n) recording))) (detected_after settings recording n))
       (ne_eqb (detected_after settings recording n).verdict.number 0 bad)
 
-  pub refusal-stays : (n more : ℕ) → ¬ ((detected_after settings recording n).verdict.number ≡ 0)
+  pub refusal_stays : (n more : ℕ) → ¬ ((detected_after settings recording n).verdict.number ≡ 0)
       → detected_after settings recording (n + more) ≡ detected_after settings recording n
-  refusal-stays n zero bad = let none : n + 0 ≡ n = omega arith in ap (detected_after settings recording) none
-  refusal-stays n (suc more) bad =
+  refusal_stays n zero bad = let none : n + 0 ≡ n = omega arith in ap (detected_after settings recording) none
+  refusal_stays n (suc more) bad =
       let plus : n + suc more ≡ suc (n + more) = omega arith in
-      let same = refusal-stays n more bad in
+      let same = refusal_stays n more bad in
       ap (detected_after settings recording) plus
       ∙ stays (n + more) (λ zero. bad (sym (ap (λ (d : Detected). d.verdict.number) same) ∙ zero))
       ∙ same
@@ -77,22 +77,22 @@ module _ (image recording : List ℕ) where
   recorded_refused verdict is bad = rw (is, ne_eqb verdict.number 0 bad)
 
   -- the image is tested first
-  pub recorded-bad-image : ¬ ((image_verdict image).number ≡ 0)
+  pub recorded_bad_image : ¬ ((image_verdict image).number ≡ 0)
       → recorded image recording
       ≡ refused_on (image_verdict image) start_bank
   unfolding recording_verdict
-  recorded-bad-image bad = recorded_refused (image_verdict image) (then-image image _ bad) bad
+  recorded_bad_image bad = recorded_refused (image_verdict image) (then_image image _ bad) bad
 
   module _ (good : (image_verdict image).number ≡ 0) where
     -- then the recording's length
-    pub recorded-uneven : ¬ (length recording % 220 ≡ 0)
+    pub recorded_uneven : ¬ (length recording % 220 ≡ 0)
         → recorded image recording ≡ refused_on (refused wrong_length 0) start_bank
     unfolding recording_verdict
-    recorded-uneven other =
-        recorded_refused (refused wrong_length 0) (then-wrong image good (length recording % 220) 0 other) (λ none. omega arith)
+    recorded_uneven other =
+        recorded_refused (refused wrong_length 0) (then_wrong image good (length recording % 220) 0 other) (λ none. omega arith)
 
-    pub recorded-whole : length recording % 220 ≡ 0
+    pub recorded_whole : length recording % 220 ≡ 0
         → recorded image recording ≡ detected_after (settings_of image) recording (length recording / 220)
     unfolding recorded recording_verdict
-    recorded-whole even =
-        rw (eq-eqb (recording_verdict image recording).number 0 (ap number_of (then-right image good (length recording % 220) 0 even)))
+    recorded_whole even =
+        rw (eq-eqb (recording_verdict image recording).number 0 (ap number_of (then_right image good (length recording % 220) 0 even)))

@@ -20,10 +20,10 @@ module _ {ℓ} {A : Type ℓ} where
   get_d_default (x ∷ l) (suc i) d e h = get_d_default l i d e (le_of_suc-le-suc h)
 
   -- ---- each
-  pub each-length : (f : ℕ → A) (i n : ℕ) → length (each f i n) ≡ n
+  pub each_length : (f : ℕ → A) (i n : ℕ) → length (each f i n) ≡ n
   unfolding each
-  each-length f i zero = refl
-  each-length f i (suc n) = ap suc (each-length f (suc i) n)
+  each_length f i zero = refl
+  each_length f i (suc n) = ap suc (each_length f (suc i) n)
 
   pub each_at : (f : ℕ → A) (i n j : ℕ) (d : A) → j < n → get_or (each f i n) j d ≡ f (i + j)
   unfolding each
@@ -31,34 +31,34 @@ module _ {ℓ} {A : Type ℓ} where
   each_at f i (suc n) zero d h = ap f (sym (add-zero i))
   each_at f i (suc n) (suc j) d h = each_at f (suc i) n j d (le_of_suc-le-suc h) ∙ ap f (suc-add i j ∙ sym (add-suc i j))
 
-  pub each-split : (f : ℕ → A) (i m n : ℕ) → each f i (m + n) ≡ each f i m ++ each f (i + m) n
+  pub each_split : (f : ℕ → A) (i m n : ℕ) → each f i (m + n) ≡ each f i m ++ each f (i + m) n
   unfolding each
-  each-split f i zero n = ap₂ (λ (k c : ℕ). each f k c) (sym (add-zero i)) (zero-add n)
-  each-split f i (suc m) n =
+  each_split f i zero n = ap₂ (λ (k c : ℕ). each f k c) (sym (add-zero i)) (zero-add n)
+  each_split f i (suc m) n =
       ap (each f i) (suc-add m n)
-      ∙ ap (λ (l : List A). f i ∷ l) (each-split f (suc i) m n ∙ ap (λ (k : ℕ). each f (suc i) m ++ each f k n) (suc-add i m ∙ sym (add-suc i m)))
+      ∙ ap (λ (l : List A). f i ∷ l) (each_split f (suc i) m n ∙ ap (λ (k : ℕ). each f (suc i) m ++ each f k n) (suc-add i m ∙ sym (add-suc i m)))
 
-  pub each-ext : (f g : ℕ → A) (i n : ℕ) → ((j : ℕ) → j < n → f (i + j) ≡ g (i + j)) → each f i n ≡ each g i n
+  pub each_ext : (f g : ℕ → A) (i n : ℕ) → ((j : ℕ) → j < n → f (i + j) ≡ g (i + j)) → each f i n ≡ each g i n
   unfolding each
-  each-ext f g i zero h = refl
-  each-ext f g i (suc n) h =
+  each_ext f g i zero h = refl
+  each_ext f g i (suc n) h =
       ap₂ ◌∷◌ (subst (λ (k : ℕ). f k ≡ g k) (add-zero i) (h zero (omega arith)))
-      (each-ext f g (suc i) n (λ j p. subst (λ (k : ℕ). f k ≡ g k) (add-suc i j ∙ sym (suc-add i j)) (h (suc j) (omega arith))))
+      (each_ext f g (suc i) n (λ j p. subst (λ (k : ℕ). f k ≡ g k) (add-suc i j ∙ sym (suc-add i j)) (h (suc j) (omega arith))))
 
-  each-shift : (f : ℕ → A) (i k n : ℕ) → each f (i + k) n ≡ each (λ j. f (i + j)) k n
+  each_shift : (f : ℕ → A) (i k n : ℕ) → each f (i + k) n ≡ each (λ j. f (i + j)) k n
   unfolding each
-  each-shift f i k zero = refl
-  each-shift f i k (suc n) =
-      ap (λ (l : List A). f (i + k) ∷ l) (ap (λ (m : ℕ). each f m n) (sym (add-suc i k)) ∙ each-shift f i (suc k) n)
+  each_shift f i k zero = refl
+  each_shift f i k (suc n) =
+      ap (λ (l : List A). f (i + k) ∷ l) (ap (λ (m : ℕ). each f m n) (sym (add-suc i k)) ∙ each_shift f i (suc k) n)
 
   -- counted from 0 in the place of i
   pub each_from : (f : ℕ → A) (i n : ℕ) → each f i n ≡ each (λ j. f (i + j)) 0 n
-  each_from f i n = ap (λ (m : ℕ). each f m n) (sym (add-zero i)) ∙ each-shift f i 0 n
+  each_from f i n = ap (λ (m : ℕ). each f m n) (sym (add-zero i)) ∙ each_shift f i 0 n
 
   -- one more at the end
   pub each_more : (f : ℕ → A) (i n : ℕ) → each f i (n + 1) ≡ each f i n ++ (f (i + n) ∷ [])
   unfolding each
-  each_more f i n = each-split f i n 1
+  each_more f i n = each_split f i n 1
 
   -- one fewer at the front
   pub each_next : (f : ℕ → A) (i n : ℕ) → i < n → each f i (n - i) ≡ f i ∷ each f (i + 1) (n - (i + 1))
@@ -74,15 +74,15 @@ module _ {ℓ} {A : Type ℓ} where
       ap (each f i) left
 
   -- a list is what its elements make
-  pub each-elements : (l : List A) (d : A) → each (λ i. get_or l i d) 0 (length l) ≡ l
-  each-elements l d =
-      let all = each-length (λ i. get_or l i d) 0 (length l) in
+  pub each_elements : (l : List A) (d : A) → each (λ i. get_or l i d) 0 (length l) ≡ l
+  each_elements l d =
+      let all = each_length (λ i. get_or l i d) 0 (length l) in
       ext_get_or d (each (λ i. get_or l i d) 0 (length l)) l all
       (λ i h. each_at (λ i. get_or l i d) 0 (length l) i d (subst (λ (n : ℕ). i < n) all h) ∙ ap (λ (m : ℕ). get_or l m d) (zero-add i))
 
   -- ---- records of w elements: place a is the place a % w of record a / w
-  pub each-record : (f : ℕ → ℕ → ℕ → A) (w k : ℕ) → each (λ a. f (a / w) (a % w) a) (w * k) w ≡ each (λ j. f k j (w * k + j)) 0 w
-  each-record f w k = each_from (λ a. f (a / w) (a % w) a) (w * k) w ∙ each-ext _ (λ j. f k j (w * k + j)) 0 w (λ j h. inside (0 + j) (omega arith))
+  pub each_record : (f : ℕ → ℕ → ℕ → A) (w k : ℕ) → each (λ a. f (a / w) (a % w) a) (w * k) w ≡ each (λ j. f k j (w * k + j)) 0 w
+  each_record f w k = each_from (λ a. f (a / w) (a % w) a) (w * k) w ∙ each_ext _ (λ j. f k j (w * k + j)) 0 w (λ j h. inside (0 + j) (omega arith))
     where
       inside : (r : ℕ) → r < w → f ((w * k + r) / w) ((w * k + r) % w) (w * k + r) ≡ f k r (w * k + r)
       inside r h =
@@ -95,41 +95,41 @@ module _ {ℓ} {A : Type ℓ} where
       → set (each f 0 k ++ drop k l₀) k (f k) ≡ each f 0 (k + 1) ++ drop (k + 1) l₀
   fill_more f l₀ k d h =
       ap (λ (l : List A). set (each f 0 k ++ l) k (f k)) (drop-cons l₀ k d h)
-      ∙ set_at (each f 0 k) (get_or l₀ k d) (drop (suc k) l₀) (f k) k (each-length f 0 k)
+      ∙ set_at (each f 0 k) (get_or l₀ k d) (drop (suc k) l₀) (f k) k (each_length f 0 k)
       ∙ sym (append_snoc (each f 0 k) (f k) (drop (suc k) l₀))
       ∙ ap₂ (λ (a b : List A). a ++ b)
       (ap (λ (m : ℕ). each f 0 k ++ (f m ∷ [])) (sym (zero-add k)) ∙ sym (each_more f 0 k))
       (ap (λ (m : ℕ). drop m l₀) (sym (add-one k)))
 
-  pub fill-all : (f : ℕ → A) (l₀ : List A) (n : ℕ) → length l₀ ≡ n → each f 0 n ++ drop n l₀ ≡ each f 0 n
-  fill-all f l₀ n h = ap (λ (l : List A). each f 0 n ++ l) (subst (λ (m : ℕ). drop m l₀ ≡ []) h (drop-length l₀)) ∙ append-nil (each f 0 n)
+  pub fill_all : (f : ℕ → A) (l₀ : List A) (n : ℕ) → length l₀ ≡ n → each f 0 n ++ drop n l₀ ≡ each f 0 n
+  fill_all f l₀ n h = ap (λ (l : List A). each f 0 n ++ l) (subst (λ (m : ℕ). drop m l₀ ≡ []) h (drop-length l₀)) ∙ append-nil (each f 0 n)
 
   -- the same for the list and the element that the code holds
   pub filled_more : (f : ℕ → A) (l₀ l : List A) (k : ℕ) (x : A) → l ≡ each f 0 k ++ drop k l₀ → x ≡ f k → k < length l₀
       → set l k x ≡ each f 0 (k + 1) ++ drop (k + 1) l₀
   filled_more f l₀ l k x is here h = ap₂ (λ (m : List A) (y : A). set m k y) is here ∙ fill_more f l₀ k x h
 
-  pub filled-all : (f : ℕ → A) (l₀ l : List A) (k n : ℕ) → l ≡ each f 0 k ++ drop k l₀ → k ≡ n → length l₀ ≡ n → l ≡ each f 0 n
-  filled-all f l₀ l k n is end whole = is ∙ ap (λ (m : ℕ). each f 0 m ++ drop m l₀) end ∙ fill-all f l₀ n whole
+  pub filled_all : (f : ℕ → A) (l₀ l : List A) (k n : ℕ) → l ≡ each f 0 k ++ drop k l₀ → k ≡ n → length l₀ ≡ n → l ≡ each f 0 n
+  filled_all f l₀ l k n is end whole = is ∙ ap (λ (m : ℕ). each f 0 m ++ drop m l₀) end ∙ fill_all f l₀ n whole
 
   -- ---- a buffer whose parts are lent one after the other
   -- the part of w elements from `at` on has come back
-  pub lent-part : (done part b₀ : List A) (at w : ℕ) → length done ≡ at
+  pub lent_part : (done part b₀ : List A) (at w : ℕ) → length done ≡ at
       → take at (done ++ drop at b₀) ++ (part ++ drop w (drop at (done ++ drop at b₀))) ≡ done ++ part ++ drop (at + w) b₀
-  lent-part done part b₀ at w h =
+  lent_part done part b₀ at w h =
       ap₂ (λ (a b : List A). a ++ (part ++ drop w b)) (take_at done (drop at b₀) at h) (drop_at done (drop at b₀) at h)
       ∙ sym (append_assoc done part (drop w (drop at b₀)))
       ∙ ap (λ (l : List A). done ++ part ++ l) (drop-drop w at b₀)
 
   -- the part for record k has come back
-  pub lent-more : (f : ℕ → A) (b₀ : List A) (w k : ℕ)
+  pub lent_more : (f : ℕ → A) (b₀ : List A) (w k : ℕ)
       → take (w * k) (each f 0 (w * k) ++ drop (w * k) b₀) ++ (each f (w * k) w ++ drop w (drop (w * k) (each f 0 (w * k) ++ drop (w * k) b₀)))
       ≡ each f 0 (w * (k + 1)) ++ drop (w * (k + 1)) b₀
-  lent-more f b₀ w k =
+  lent_more f b₀ w k =
       let more : w * (k + 1) ≡ w * k + w = ap (λ (m : ℕ). w * m) (add-one k) ∙ mul-suc w k in
-      lent-part (each f 0 (w * k)) (each f (w * k) w) b₀ (w * k) w (each-length f 0 (w * k))
+      lent_part (each f 0 (w * k)) (each f (w * k) w) b₀ (w * k) w (each_length f 0 (w * k))
       ∙ ap (λ (l : List A). l ++ drop (w * k + w) b₀)
-      (ap (λ (m : ℕ). each f 0 (w * k) ++ each f m w) (sym (zero-add (w * k))) ∙ sym (each-split f 0 (w * k) w))
+      (ap (λ (m : ℕ). each f 0 (w * k) ++ each f m w) (sym (zero-add (w * k))) ∙ sym (each_split f 0 (w * k) w))
       ∙ ap (λ (m : ℕ). each f 0 m ++ drop m b₀) (sym more)
 
   -- the same for the buffer and the part that the code holds
@@ -138,10 +138,10 @@ module _ {ℓ} {A : Type ℓ} where
   lent_back f b₀ b part w k n is here whole =
       ap₂ (λ (l m : List A). take (w * k) l ++ (m ++ drop n (drop (w * k) l))) is here
       ∙ ap (λ (m : ℕ). take (w * k) (each f 0 (w * k) ++ drop (w * k) b₀) ++ (each f (w * k) w ++ drop m (drop (w * k) (each f 0 (w * k) ++ drop (w * k) b₀)))) whole
-      ∙ lent-more f b₀ w k
+      ∙ lent_more f b₀ w k
 
   pub lent_length : (f : ℕ → A) (b₀ : List A) (n : ℕ) → n ≤ length b₀ → length (each f 0 n ++ drop n b₀) ≡ length b₀
-  lent_length f b₀ n h = simp (length-append, each-length, length-drop) (omega arith)
+  lent_length f b₀ n h = simp (length-append, each_length, length-drop) (omega arith)
 
 -- ---- a copy of as many bytes
 pub copied_whole : (bytes part : List ℕ) → length part ≡ length bytes → copied bytes part ≡ bytes

@@ -12,8 +12,8 @@ module _ (vs : List Verdict) (holds : Bool) (number place : ℕ) where
   told : {b : Bool} → holds ≡ b → first_refusal (refused_unless holds number place ∷ vs) ≡ or_else (refused_unless b number place) (first_refusal vs)
   told h = first_cons _ _ ∙ ap (λ (b : Bool). or_else (refused_unless b number place) (first_refusal vs)) h
 
-  pub test-refuses : {r : Verdict} → (number ≡ 0 → ⊥) → holds ≡ false → r ≡ refused_unless false number place → r ≡ first_refusal (refused_unless holds number place ∷ vs)
-  test-refuses n h e = e ∙ sym (told h ∙ or_else_hit _ _ n)
+  pub test_refuses : {r : Verdict} → (number ≡ 0 → ⊥) → holds ≡ false → r ≡ refused_unless false number place → r ≡ first_refusal (refused_unless holds number place ∷ vs)
+  test_refuses n h e = e ∙ sym (told h ∙ or_else_hit _ _ n)
 
-  pub test-passes : {r : Verdict} → holds ≡ true → r ≡ first_refusal vs → r ≡ first_refusal (refused_unless holds number place ∷ vs)
-  test-passes h rest = rest ∙ sym (told h ∙ or_else_pass _ _ refl)
+  pub test_passes : {r : Verdict} → holds ≡ true → r ≡ first_refusal vs → r ≡ first_refusal (refused_unless holds number place ∷ vs)
+  test_passes h rest = rest ∙ sym (told h ∙ or_else_pass _ _ refl)

@@ -62,65 +62,65 @@ is_lowest test i n k from within holds before =
 module _ (w : ℕ) (bytes : List ℕ) where
   -- ---- a repeated tag
 
-  used-some : (tag n : ℕ) → used_before w bytes tag n ≡ true → (i : ℕ) × (i < n) × (tag_at w bytes i ≡ tag)
+  used_some : (tag n : ℕ) → used_before w bytes tag n ≡ true → (i : ℕ) × (i < n) × (tag_at w bytes i ≡ tag)
   unfolding used_before
-  used-some tag zero e = absurd (false≢true e)
-  used-some tag (suc n) e =
+  used_some tag zero e = absurd (false≢true e)
+  used_some tag (suc n) e =
       elim (ℕ_discrete (tag_at w bytes n) tag) [
         | yes p ↦ (n, omega arith, p)
-        | no p ↦ (let found = used-some tag n (or-false _ (rw (ne_eqb _ _ p) at e)) in (found.0, omega (arith, found.1), found.2))
+        | no p ↦ (let found = used_some tag n (or_false _ (rw (ne_eqb _ _ p) at e)) in (found.0, omega (arith, found.1), found.2))
       ]
     where
-      or-false : (t : Bool) → t || false ≡ true → t ≡ true
-      or-false true q = refl
-      or-false false q = q
+      or_false : (t : Bool) → t || false ≡ true → t ≡ true
+      or_false true q = refl
+      or_false false q = q
 
-  some-used : (tag n i : ℕ) → i < n → tag_at w bytes i ≡ tag → used_before w bytes tag n ≡ true
+  some_used : (tag n i : ℕ) → i < n → tag_at w bytes i ≡ tag → used_before w bytes tag n ≡ true
   unfolding used_before
-  some-used tag zero i h e = absurd (not-suc-le-zero h)
-  some-used tag (suc n) i h e =
+  some_used tag zero i h e = absurd (not-suc-le-zero h)
+  some_used tag (suc n) i h e =
       elim (ℕ_discrete i n) [
-        | yes p ↦ rw (eq-eqb (tag_at w bytes n) tag (subst (λ (m : ℕ). tag_at w bytes m ≡ tag) p e)) (or-true (used_before w bytes tag n))
-        | no p ↦ rw (some-used tag n i (omega arith) e)
+        | yes p ↦ rw (eq-eqb (tag_at w bytes n) tag (subst (λ (m : ℕ). tag_at w bytes m ≡ tag) p e)) (or_true (used_before w bytes tag n))
+        | no p ↦ rw (some_used tag n i (omega arith) e)
       ]
     where
-      or-true : (t : Bool) → t || true ≡ true
-      or-true true = refl
-      or-true false = refl
+      or_true : (t : Bool) → t || true ≡ true
+      or_true true = refl
+      or_true false = refl
 
   -- record j repeats a tag exactly when some record before it has the same tag
-  pub repeats-some : (j : ℕ) → repeats w bytes j ≡ true → (i : ℕ) × (i < j) × (tag_at w bytes i ≡ tag_at w bytes j)
+  pub repeats_some : (j : ℕ) → repeats w bytes j ≡ true → (i : ℕ) × (i < j) × (tag_at w bytes i ≡ tag_at w bytes j)
   unfolding repeats
-  repeats-some j e = used-some (tag_at w bytes j) j e
+  repeats_some j e = used_some (tag_at w bytes j) j e
 
   -- and conversely
-  pub some-repeats : (i j : ℕ) → i < j → tag_at w bytes i ≡ tag_at w bytes j → repeats w bytes j ≡ true
+  pub some_repeats : (i j : ℕ) → i < j → tag_at w bytes i ≡ tag_at w bytes j → repeats w bytes j ≡ true
   unfolding repeats
-  some-repeats i j h e = some-used (tag_at w bytes j) j i h e
+  some_repeats i j h e = some_used (tag_at w bytes j) j i h e
 
   -- and does not, exactly when none has
   pub fresh : (j : ℕ) → (not (repeats w bytes j) ≡ true) ↔ ((i : ℕ) → i < j → tag_at w bytes i ≡ tag_at w bytes j → ⊥)
-  fresh j = (λ e i h same. true≢false (sym (some-repeats i j h same) ∙ not-true _ e), λ none. unrepeated none (repeats w bytes j) refl)
+  fresh j = (λ e i h same. true≢false (sym (some_repeats i j h same) ∙ not-true _ e), λ none. unrepeated none (repeats w bytes j) refl)
     where
       unrepeated : ((i : ℕ) → i < j → tag_at w bytes i ≡ tag_at w bytes j → ⊥) → (t : Bool) → repeats w bytes j ≡ t → not (repeats w bytes j) ≡ true
       unrepeated none false e = rw e
-      unrepeated none true e = let found = repeats-some j e in absurd (none found.0 found.1 found.2)
+      unrepeated none true e = let found = repeats_some j e in absurd (none found.0 found.1 found.2)
 
   -- ---- look-up
 
   -- below n it gives a record with the tag
-  pub lookUp-has : (n tag : ℕ) → look_up w bytes n tag < n → tag_at w bytes (look_up w bytes n tag) ≡ tag
+  pub look_up_has_lem : (n tag : ℕ) → look_up w bytes n tag < n → tag_at w bytes (look_up w bytes n tag) ≡ tag
   unfolding look_up
-  lookUp-has n tag h = eqb-true _ _ ((lowest_is (λ k. eqb (tag_at w bytes k) tag) 0 n).holds (omega arith))
+  look_up_has_lem n tag h = eqb-true _ _ ((lowest_is (λ k. eqb (tag_at w bytes k) tag) 0 n).holds (omega arith))
 
   -- no record below it has the tag
-  pub lookUp-first : (n tag k : ℕ) → k < look_up w bytes n tag → tag_at w bytes k ≡ tag → ⊥
+  pub look_up_first : (n tag k : ℕ) → k < look_up w bytes n tag → tag_at w bytes k ≡ tag → ⊥
   unfolding look_up
-  lookUp-first n tag k h = eqb-false _ _ ((lowest_is (λ k. eqb (tag_at w bytes k) tag) 0 n).before k (omega arith) h)
+  look_up_first n tag k h = eqb-false _ _ ((lowest_is (λ k. eqb (tag_at w bytes k) tag) 0 n).before k (omega arith) h)
 
   -- without repeats among the first n records, look-up undoes tag_at
-  pub lookUp-tagAt : (n : ℕ) → ((j : ℕ) → j < n → repeats w bytes j ≡ false) → (k : ℕ) → k < n → look_up w bytes n (tag_at w bytes k) ≡ k
+  pub look_up_tag_at : (n : ℕ) → ((j : ℕ) → j < n → repeats w bytes j ≡ false) → (k : ℕ) → k < n → look_up w bytes n (tag_at w bytes k) ≡ k
   unfolding look_up
-  lookUp-tagAt n once k h =
+  look_up_tag_at n once k h =
       is_lowest (λ m. eqb (tag_at w bytes m) (tag_at w bytes k)) 0 n k (omega arith) (omega arith) (eq-eqb (tag_at w bytes k) _ refl)
-      (λ m p q. ne_eqb _ _ (λ e. true≢false (sym (some-repeats m k q e) ∙ once k h)))
+      (λ m p q. ne_eqb _ _ (λ e. true≢false (sym (some_repeats m k q e) ∙ once k h)))

@@ -11,7 +11,7 @@ use Rattle.records.specs.Verdicts.{refused, refused_unless, or_else, first_refus
 use Rattle.records.specs.Lists.{each}
 use Rattle.records.specs.declared.Verdict.{Verdict}
 use Rattle.records.proofs.Every.{Every, none, ◌also◌}
-use Rattle.records.proofs.VerdictLaws.{or_else_pass, or_else_hit, or_else_zero, number_of, tests-accepted, accepted-tests, lowest-shows, shows-lowest}
+use Rattle.records.proofs.VerdictLaws.{or_else_pass, or_else_hit, or_else_zero, number_of, tests_accepted, accepted_tests, lowest_shows, shows_lowest}
 
 -- ---- tests as facts
 
@@ -38,12 +38,12 @@ absent_test m n = (
 pub present_test : (m n : ℕ) → (not (not (eqb m 0)) || not (eqb n 0) ≡ true) ↔ (n ≡ 0 → m ≡ 0)
 present_test m n = (
   λ e z. elim (ℕ_discrete m 0) [ yes y ↦ y | no y ↦ absurd (false≢true (rw (ne_eqb m 0 y, eq-eqb n 0 z) at e)) ],
-  λ h. elim (ℕ_discrete n 0) [ yes z ↦ rw (eq-eqb n 0 z, eq-eqb m 0 (h z)) | no z ↦ rw (ne_eqb n 0 z) (or-true (not (not (eqb m 0)))) ],
+  λ h. elim (ℕ_discrete n 0) [ yes z ↦ rw (eq-eqb n 0 z, eq-eqb m 0 (h z)) | no z ↦ rw (ne_eqb n 0 z) (or_true (not (not (eqb m 0)))) ],
 )
   where
-    or-true : (t : Bool) → t || true ≡ true
-    or-true true = refl
-    or-true false = refl
+    or_true : (t : Bool) → t || true ≡ true
+    or_true true = refl
+    or_true false = refl
 
 -- ---- a length: "1 to 63" records of so many bytes each
 
@@ -134,8 +134,8 @@ pub shows_lowest_of : (test : ℕ → Verdict) (n : ℕ) (P : ℕ → Type 0) �
     → ShowsLowest (first_refusal (each test 0 n)) test n P
 shows_lowest_of test n P means =
     record {
-      accepts = (λ e k h. (means k).0 (accepted-tests test n e k h), λ f. ap number_of (tests-accepted test n (λ k h. (means k).1 (f k h))));
-      refuses = λ r. let found = shows-lowest test n r in (
+      accepts = (λ e k h. (means k).0 (accepted_tests test n e k h), λ f. ap number_of (tests_accepted test n (λ k h. (means k).1 (f k h))));
+      refuses = λ r. let found = shows_lowest test n r in (
         found.0,
         record {
           within = found.1.inside;
@@ -144,7 +144,7 @@ shows_lowest_of test n P means =
         },
       );
       names = λ j low.
-          lowest-shows test n j
+          lowest_shows test n j
           (record { inside = low.within; refuses = λ z. low.fails ((means j).0 z); before = λ i h. (means i).1 (low.before i h) });
     }
 

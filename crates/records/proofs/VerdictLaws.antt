@@ -11,7 +11,7 @@ use lib.ListN.{get_or, get_or-eq_default}
 use Rattle.records.specs.Verdicts.{accepted, refused, refused_unless, or_else, first_refusal}
 use Rattle.records.specs.Lists.{each}
 use Rattle.records.specs.declared.Verdict.{Verdict}
-use Rattle.records.proofs.ListLaws.{each_next, each_none, each-split, each_at, each-length}
+use Rattle.records.proofs.ListLaws.{each_next, each_none, each_split, each_at, each_length}
 
 -- ---- one test
 -- a test that refuses with a number passes only where it holds
@@ -152,29 +152,29 @@ module _ (test : ℕ → Verdict) (n : ℕ) where
   tested a inside = each_at test 0 n a accepted inside ∙ ap test (zero-add a)
 
   untested : (a : ℕ) → n ≤ a → get_or (each test 0 n) a accepted ≡ accepted
-  untested a past = get_or-eq_default (each test 0 n) accepted (rw each-length past)
+  untested a past = get_or-eq_default (each test 0 n) accepted (rw each_length past)
 
-  pub tests-accepted : ((a : ℕ) → a < n → (test a).number ≡ 0) → first_refusal (each test 0 n) ≡ accepted
-  tests-accepted pass =
+  pub tests_accepted : ((a : ℕ) → a < n → (test a).number ≡ 0) → first_refusal (each test 0 n) ≡ accepted
+  tests_accepted pass =
       passes_accepted (each test 0 n) λ a.
       elim (dec_lt a n) [
         | yes inside ↦ ap number_of (tested a inside) ∙ pass a inside
         | no outside ↦ ap number_of (untested a (omega arith))
       ]
 
-  pub accepted-tests : (first_refusal (each test 0 n)).number ≡ 0 → (a : ℕ) → a < n → (test a).number ≡ 0
-  accepted-tests pass a inside = sym (ap number_of (tested a inside)) ∙ accepted_passes (each test 0 n) pass a
+  pub accepted_tests : (first_refusal (each test 0 n)).number ≡ 0 → (a : ℕ) → a < n → (test a).number ≡ 0
+  accepted_tests pass a inside = sym (ap number_of (tested a inside)) ∙ accepted_passes (each test 0 n) pass a
 
-  pub lowest-shows : (a : ℕ) → Lowest test n a → first_refusal (each test 0 n) ≡ test a
-  lowest-shows a low =
+  pub lowest_shows : (a : ℕ) → Lowest test n a → first_refusal (each test 0 n) ≡ test a
+  lowest_shows a low =
       first_shows (each test 0 n) a (record {
         refuses = λ pass. low.refuses (sym (ap number_of (tested a low.inside)) ∙ pass);
         before = λ i below. ap number_of (tested i (omega (arith, low.inside))) ∙ low.before i below;
       })
       ∙ tested a low.inside
 
-  first-lowest : (a : ℕ) → FirstAt (each test 0 n) a → Lowest test n a
-  first-lowest a first =
+  first_lowest : (a : ℕ) → FirstAt (each test 0 n) a → Lowest test n a
+  first_lowest a first =
       elim (dec_lt a n) [
         | yes inside ↦
             record {
@@ -185,8 +185,8 @@ module _ (test : ℕ → Verdict) (n : ℕ) where
         | no outside ↦ absurd (first.refuses (ap number_of (untested a (omega arith))))
       ]
 
-  pub shows-lowest : ((first_refusal (each test 0 n)).number ≡ 0 → ⊥) → (a : ℕ) × Lowest test n a
-  shows-lowest refused = let first = shows_first (each test 0 n) refused in (first.0, first-lowest first.0 first.1)
+  pub shows_lowest : ((first_refusal (each test 0 n)).number ≡ 0 → ⊥) → (a : ℕ) × Lowest test n a
+  shows_lowest refused = let first = shows_first (each test 0 n) refused in (first.0, first_lowest first.0 first.1)
 
 -- ---- the search over n records of w tests is the search over the records
 pub first_records : (f : ℕ → Verdict) (w k n : ℕ) → first_refusal (each f (w * k) (w * n)) ≡ first_refusal (each (λ i. first_refusal (each f (w * i) w)) k n)
@@ -194,7 +194,7 @@ unfolding each
 first_records f w k zero = ap (λ (m : ℕ). first_refusal (each f (w * k) m)) (mul-zero w)
 first_records f w k (suc n) =
     ap (λ (m : ℕ). first_refusal (each f (w * k) m)) (mul-suc w n ∙ add_comm (w * n) w)
-    ∙ ap first_refusal (each-split f (w * k) w (w * n))
+    ∙ ap first_refusal (each_split f (w * k) w (w * n))
     ∙ first_append (each f (w * k) w) (each f (w * k + w) (w * n))
     ∙ ap (λ (m : ℕ). or_else (first_refusal (each f (w * k) w)) (first_refusal (each f m (w * n)))) (sym (mul-suc w k))
     ∙ ap (or_else (first_refusal (each f (w * k) w))) (first_records f w (suc k) n)
@@ -234,22 +234,22 @@ chain_one {v = v} r u = r ∙ ap (λ (x : Verdict). or_else x v) u ∙ or_else_p
 
 -- ---- a loop over tests that returns the first refusal: what is left gives the whole answer
 module _ (f : ℕ → Verdict) (k n : ℕ) where
-  search-hit : k < n → ((f k).number ≡ 0 → ⊥) → first_refusal (each f k (n - k)) ≡ f k
-  search-hit h r = ap first_refusal (each_next f k n h) ∙ first_cons _ _ ∙ or_else_hit _ _ r
+  search_hit : k < n → ((f k).number ≡ 0 → ⊥) → first_refusal (each f k (n - k)) ≡ f k
+  search_hit h r = ap first_refusal (each_next f k n h) ∙ first_cons _ _ ∙ or_else_hit _ _ r
 
-  search-pass : k < n → (f k).number ≡ 0 → first_refusal (each f k (n - k)) ≡ first_refusal (each f (k + 1) (n - (k + 1)))
-  search-pass h r = ap first_refusal (each_next f k n h) ∙ first_cons _ _ ∙ or_else_pass _ _ r
+  search_pass : k < n → (f k).number ≡ 0 → first_refusal (each f k (n - k)) ≡ first_refusal (each f (k + 1) (n - (k + 1)))
+  search_pass h r = ap first_refusal (each_next f k n h) ∙ first_cons _ _ ∙ or_else_pass _ _ r
 
   -- the same where the code holds the test's verdict
-  found-hit : (v : Verdict) → v ≡ f k → k < n → (v.number ≡ 0 → ⊥) → first_refusal (each f k (n - k)) ≡ v
-  found-hit v is h r = search-hit h (λ z. r (ap (λ (x : Verdict). x.number) is ∙ z)) ∙ sym is
+  found_hit : (v : Verdict) → v ≡ f k → k < n → (v.number ≡ 0 → ⊥) → first_refusal (each f k (n - k)) ≡ v
+  found_hit v is h r = search_hit h (λ z. r (ap (λ (x : Verdict). x.number) is ∙ z)) ∙ sym is
 
-  found-pass : (v : Verdict) → v ≡ f k → k < n → v.number ≡ 0 → first_refusal (each f k (n - k)) ≡ first_refusal (each f (k + 1) (n - (k + 1)))
-  found-pass v is h r = search-pass h (sym (ap (λ (x : Verdict). x.number) is) ∙ r)
+  found_pass : (v : Verdict) → v ≡ f k → k < n → v.number ≡ 0 → first_refusal (each f k (n - k)) ≡ first_refusal (each f (k + 1) (n - (k + 1)))
+  found_pass v is h r = search_pass h (sym (ap (λ (x : Verdict). x.number) is) ∙ r)
 
-  search-end : n ≤ k → first_refusal (each f k (n - k)) ≡ accepted
+  search_end : n ≤ k → first_refusal (each f k (n - k)) ≡ accepted
   unfolding first_refusal
-  search-end h = ap first_refusal (each_none f k n h)
+  search_end h = ap first_refusal (each_none f k n h)
 
 -- the same as a record of what a loop over n tests has reached before test k
 pub record Searched (whole : Verdict) (f : ℕ → Verdict) (n k : ℕ) : Type 0 where
@@ -257,20 +257,20 @@ pub record Searched (whole : Verdict) (f : ℕ → Verdict) (n k : ℕ) : Type 0
   pub left : whole ≡ first_refusal (each f k (n - k))
 
 module _ {whole : Verdict} {f : ℕ → Verdict} {n : ℕ} where
-  pub searched-none : {count : ℕ} → n ≡ count → whole ≡ first_refusal (each f 0 count) → Searched whole f n 0
-  searched-none counted all =
+  pub searched_none : {count : ℕ} → n ≡ count → whole ≡ first_refusal (each f 0 count) → Searched whole f n 0
+  searched_none counted all =
       record { within = omega arith; left = all ∙ ap (λ (m : ℕ). first_refusal (each f 0 m)) (sym (sub-zero n ∙ counted)) }
 
   module _ {k : ℕ} (so : Searched whole f n k) where
     -- the code holds the verdict of test k
-    pub searched-pass : {v : Verdict} → k < n → v ≡ f k → v.number ≡ 0 → Searched whole f n (k + 1)
-    searched-pass h is r = record { within = omega arith; left = so.left ∙ found-pass f k n _ is h r }
+    pub searched_pass : {v : Verdict} → k < n → v ≡ f k → v.number ≡ 0 → Searched whole f n (k + 1)
+    searched_pass h is r = record { within = omega arith; left = so.left ∙ found_pass f k n _ is h r }
 
-    pub searched-hit : {v : Verdict} → k < n → v ≡ f k → (v.number ≡ 0 → ⊥) → v ≡ whole
-    searched-hit h is r = sym (so.left ∙ found-hit f k n _ is h r)
+    pub searched_hit : {v : Verdict} → k < n → v ≡ f k → (v.number ≡ 0 → ⊥) → v ≡ whole
+    searched_hit h is r = sym (so.left ∙ found_hit f k n _ is h r)
 
-    pub searched-end : n ≤ k → accepted ≡ whole
-    searched-end h = sym (so.left ∙ search-end f k n h)
+    pub searched_end : n ≤ k → accepted ≡ whole
+    searched_end h = sym (so.left ∙ search_end f k n h)
 
 -- a flag for each number: where it is false, the number of the list at its place
 abbrev pub flagged : (ℕ → Bool) → ℕ → (ℕ → ℕ) → ℕ → Verdict
@@ -278,8 +278,8 @@ flagged flag number place j = refused_unless (flag j) number (place j)
 
 -- the same where each test is a flag
 module _ (flag : ℕ → Bool) (number : ℕ) (place : ℕ → ℕ) {whole : Verdict} {n k : ℕ} (so : Searched whole (flagged flag number place) n k) (h : k < n) where
-  pub flag-pass : flag k ≡ true → Searched whole (flagged flag number place) n (k + 1)
-  flag-pass t = searched-pass so h (ap (λ (b : Bool). refused_unless b number (place k)) (sym t)) refl
+  pub flag_pass : flag k ≡ true → Searched whole (flagged flag number place) n (k + 1)
+  flag_pass t = searched_pass so h (ap (λ (b : Bool). refused_unless b number (place k)) (sym t)) refl
 
-  pub flag-hit : (number ≡ 0 → ⊥) → flag k ≡ false → refused number (place k) ≡ whole
-  flag-hit some t = searched-hit so h (ap (λ (b : Bool). refused_unless b number (place k)) (sym t)) some
+  pub flag_hit : (number ≡ 0 → ⊥) → flag k ≡ false → refused number (place k) ≡ whole
+  flag_hit some t = searched_hit so h (ap (λ (b : Bool). refused_unless b number (place k)) (sym t)) some

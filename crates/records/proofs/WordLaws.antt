@@ -45,8 +45,8 @@ module _ (f : ℕ → Bool) (n word added : ℕ) (on : Bool) (reached : word ≡
   pub added_more : word + added ≡ word_of f (n + 1)
   added_more = is_sum ∙ word_of_more f n h
 
-  pub added-fits : word + added < 2 ^ 16
-  added-fits = subst (λ (m : ℕ). m < 2 ^ 16) (sym is_sum) (word_of_fits f n h)
+  pub added_fits : word + added < 2 ^ 16
+  added_fits = subst (λ (m : ℕ). m < 2 ^ 16) (sym is_sum) (word_of_fits f n h)
 
 -- a bit above leaves those below as they are
 below : (w n k : ℕ) (on : Bool) → k < n → bits (w + cond on (2 ^ n) 0) k 1 ≡ bits w k 1

@@ -12,7 +12,7 @@ use lib.ListN.{length}
 use Rattle.records.specs.Tags.{tag_at, repeats, look_up}
 use Rattle.records.proofs.Every.{none, ◌also◌}
 use Rattle.records.proofs.TestLaws.{le_test, eq_test, absent_test, present_test, Whole, whole_test, unless_passed, unless_passes, all_zero, all_pass, two_tests, NamesLowest, names_lowest}
-use Rattle.records.proofs.TagLaws.{repeats-some, fresh, lookUp-has, lookUp-first, lookUp-tagAt}
+use Rattle.records.proofs.TagLaws.{repeats_some, fresh, look_up_has_lem, look_up_first, look_up_tag_at}
 use Rattle.machine.proofs.FieldLaws.{outputs_range, mask_range, channel_range, level_range, level_allowed_lem}
 use Rattle.machine.proofs.StandLaws.{Leads, AbsentExits}
 use Rattle.steps.specs.Steps.{step_at, step_count, jump_fault, step_fault}
@@ -105,101 +105,101 @@ pub record AcceptedSheet (sheet : List ℕ) : Type 0 where
 
 module _ (sheet : List ℕ) where
   -- the length
-  pub length-accepted : (is_sheet sheet ≡ true) ↔ SheetLength sheet
+  pub length_accepted : (is_sheet sheet ≡ true) ↔ SheetLength sheet
   unfolding is_sheet
-  length-accepted = whole_test 16 (length sheet)
+  length_accepted = whole_test 16 (length sheet)
 
   -- the fields of a step
-  fields-mean : (k : ℕ) → (eqb (step_fault (step_at sheet k)).number 0 ≡ true) ↔ AcceptedStep (step_at sheet k)
-  fields-mean k = (λ e. (step_accepted _).0 ((eq_test _ _).0 e), λ a. (eq_test _ _).1 ((step_accepted _).1 a))
+  fields_mean : (k : ℕ) → (eqb (step_fault (step_at sheet k)).number 0 ≡ true) ↔ AcceptedStep (step_at sheet k)
+  fields_mean k = (λ e. (step_accepted _).0 ((eq_test _ _).0 e), λ a. (eq_test _ _).1 ((step_accepted _).1 a))
 
-  tag-at : (k : ℕ) → tag_at 16 sheet k ≡ (step_at sheet k).tag
+  tag_at_lem : (k : ℕ) → tag_at 16 sheet k ≡ (step_at sheet k).tag
   unfolding tag_at step_at
-  tag-at k = refl
+  tag_at_lem k = refl
 
   -- the tag of a step
-  tag-means : (j : ℕ) → (not (repeats 16 sheet j) ≡ true) ↔ Fresh sheet j
+  tag_means : (j : ℕ) → (not (repeats 16 sheet j) ≡ true) ↔ Fresh sheet j
   unfolding tag_at step_at
-  tag-means j = fresh 16 sheet j
+  tag_means j = fresh 16 sheet j
 
   -- a jump
-  known-means : (jump : ℕ) → (known sheet jump ≡ true) ↔ Known sheet jump
+  known_means : (jump : ℕ) → (known sheet jump ≡ true) ↔ Known sheet jump
   unfolding known
-  known-means jump =
+  known_means jump =
       (λ e some. there some e, λ k. elim (ℕ_discrete jump 0) [ yes z ↦ rw (eq-eqb jump 0 z) | no z ↦ rw (ne_eqb jump 0 z) (found (k z)) ])
     where
       there : (jump ≡ 0 → ⊥) → eqb jump 0 || ltb (look_up 16 sheet (step_count sheet) jump) (step_count sheet) ≡ true
           → (i : ℕ) × (i < step_count sheet) × ((step_at sheet i).tag ≡ jump)
       there some e =
           let below : look_up 16 sheet (step_count sheet) jump < step_count sheet = ltb-true _ _ (rw (ne_eqb jump 0 some) at e) in
-          (look_up 16 sheet (step_count sheet) jump, below, sym (tag-at _) ∙ lookUp-has 16 sheet (step_count sheet) jump below)
+          (look_up 16 sheet (step_count sheet) jump, below, sym (tag_at_lem _) ∙ look_up_has_lem 16 sheet (step_count sheet) jump below)
 
       found : ((i : ℕ) × (i < step_count sheet) × ((step_at sheet i).tag ≡ jump)) → ltb (look_up 16 sheet (step_count sheet) jump) (step_count sheet) ≡ true
       found s =
           elim (dec_lt (look_up 16 sheet (step_count sheet) jump) (step_count sheet)) [
             | yes p ↦ lt-ltb _ _ p
-            | no p ↦ absurd (lookUp-first 16 sheet (step_count sheet) jump s.0 (omega (arith, s.1)) (tag-at s.0 ∙ s.2))
+            | no p ↦ absurd (look_up_first 16 sheet (step_count sheet) jump s.0 (omega (arith, s.1)) (tag_at_lem s.0 ∙ s.2))
           ]
 
   -- the jumps of a step
-  jumps-mean : (k : ℕ) → (jumps_known sheet k ≡ true) ↔ KnownJumps sheet (step_at sheet k)
+  jumps_mean : (k : ℕ) → (jumps_known sheet k ≡ true) ↔ KnownJumps sheet (step_at sheet k)
   unfolding jumps_known
-  jumps-mean k = (
+  jumps_mean k = (
     λ e.
         let outer = (and-eq-true_iff _ _).0 e in
         let inner = (and-eq-true_iff _ _).0 outer.0 in
-        record { fault = (known-means _).0 inner.0; sequence = (known-means _).0 inner.1; timeout = (known-means _).0 outer.1 },
+        record { fault = (known_means _).0 inner.0; sequence = (known_means _).0 inner.1; timeout = (known_means _).0 outer.1 },
     λ h.
         (and-eq-true_iff _ _).1
-        ((and-eq-true_iff _ _).1 ((known-means _).1 h.fault, (known-means _).1 h.sequence), (known-means _).1 h.timeout),
+        ((and-eq-true_iff _ _).1 ((known_means _).1 h.fault, (known_means _).1 h.sequence), (known_means _).1 h.timeout),
   )
 
   -- "4 | a field ... out of its range | step"
-  pub fields-test : NamesLowest (fields_verdict sheet) 4 (step_count sheet) (λ k. AcceptedStep (step_at sheet k))
+  pub fields_test : NamesLowest (fields_verdict sheet) 4 (step_count sheet) (λ k. AcceptedStep (step_at sheet k))
   unfolding fields_verdict
-  fields-test = names_lowest _ _ _ (omega arith) _ fields-mean
+  fields_test = names_lowest _ _ _ (omega arith) _ fields_mean
 
   -- "5 | a tag used by an earlier step | the later step"
-  pub repeats-test : NamesLowest (repeats_verdict sheet) 5 (step_count sheet) (Fresh sheet)
+  pub repeats_test : NamesLowest (repeats_verdict sheet) 5 (step_count sheet) (Fresh sheet)
   unfolding repeats_verdict
-  repeats-test = names_lowest _ _ _ (omega arith) _ tag-means
+  repeats_test = names_lowest _ _ _ (omega arith) _ tag_means
 
   -- "6 | a jump to a tag that no step has | step"
-  pub unknown-test : NamesLowest (unknown_verdict sheet) 6 (step_count sheet) (λ k. KnownJumps sheet (step_at sheet k))
+  pub unknown_test : NamesLowest (unknown_verdict sheet) 6 (step_count sheet) (λ k. KnownJumps sheet (step_at sheet k))
   unfolding unknown_verdict
-  unknown-test = names_lowest _ _ _ (omega arith) _ jumps-mean
+  unknown_test = names_lowest _ _ _ (omega arith) _ jumps_mean
 
   -- a step that is not fresh has the tag of an earlier one
-  pub not-fresh : (j : ℕ) → (Fresh sheet j → ⊥) → (i : ℕ) × (i < j) × ((step_at sheet i).tag ≡ (step_at sheet j).tag)
+  pub not_fresh : (j : ℕ) → (Fresh sheet j → ⊥) → (i : ℕ) × (i < j) × ((step_at sheet i).tag ≡ (step_at sheet j).tag)
   unfolding tag_at step_at
-  not-fresh j used = found (repeats 16 sheet j) refl
+  not_fresh j used = found (repeats 16 sheet j) refl
     where
       found : (t : Bool) → repeats 16 sheet j ≡ t → (i : ℕ) × (i < j) × (tag_at 16 sheet i ≡ tag_at 16 sheet j)
-      found true e = repeats-some 16 sheet j e
-      found false e = absurd (used ((tag-means j).0 (rw e)))
+      found true e = repeats_some 16 sheet j e
+      found false e = absurd (used ((tag_means j).0 (rw e)))
 
   -- ---- the sheet
 
   -- a sheet is accepted exactly when the paper's conditions hold
-  pub sheet-accepted : ((sheet_verdict sheet).number ≡ 0) ↔ AcceptedSheet sheet
+  pub sheet_accepted : ((sheet_verdict sheet).number ≡ 0) ↔ AcceptedSheet sheet
   unfolding sheet_verdict sheet_tests
-  sheet-accepted = (
+  sheet_accepted = (
     λ e.
         elim (all_pass _ e) [
           | size also steps also tags also jumps also none ↦
               record {
-                size = unless_passed length-accepted _ _ (omega arith) size;
-                steps = fields-test.accepts.0 steps;
-                tags = repeats-test.accepts.0 tags;
-                jumps = unknown-test.accepts.0 jumps;
+                size = unless_passed length_accepted _ _ (omega arith) size;
+                steps = fields_test.accepts.0 steps;
+                tags = repeats_test.accepts.0 tags;
+                jumps = unknown_test.accepts.0 jumps;
               }
         ],
     λ a.
         all_zero _ (
-        unless_passes length-accepted _ _ a.size also
-        fields-test.accepts.1 a.steps also
-        repeats-test.accepts.1 a.tags also
-        unknown-test.accepts.1 a.jumps also
+        unless_passes length_accepted _ _ a.size also
+        fields_test.accepts.1 a.steps also
+        repeats_test.accepts.1 a.tags also
+        unknown_test.accepts.1 a.jumps also
         none),
   )
 
@@ -217,14 +217,14 @@ target_absent sheet jump z = rw (eq-eqb jump 0 z)
 
 module _ (sheet : List ℕ) (a : AcceptedSheet sheet) where
   -- the number of steps is the length by sixteen
-  pub count-quotient : step_count sheet ≡ length sheet / 16
+  pub count_quotient : step_count sheet ≡ length sheet / 16
   unfolding step_count
-  count-quotient = omega (arith, a.size.most)
+  count_quotient = omega (arith, a.size.most)
 
   -- sixteen bytes a step
-  pub count-length : 16 * step_count sheet ≡ length sheet
+  pub count_length : 16 * step_count sheet ≡ length sheet
   unfolding step_count
-  count-length = omega arith
+  count_length = omega arith
 
   -- at least one step
   pub count_least : 1 ≤ step_count sheet
@@ -232,47 +232,47 @@ module _ (sheet : List ℕ) (a : AcceptedSheet sheet) where
   count_least = omega arith
 
   -- without repeats, look-up undoes the tag
-  pub lookUp-step : (k : ℕ) → k < step_count sheet → look_up 16 sheet (step_count sheet) (step_at sheet k).tag ≡ k
-  lookUp-step k h =
-      ap (look_up 16 sheet (step_count sheet)) (sym (tag-at sheet k))
-      ∙ lookUp-tagAt 16 sheet (step_count sheet) (λ j q. not-true _ ((tag-means sheet j).1 (a.tags j q))) k h
+  pub look_up_step : (k : ℕ) → k < step_count sheet → look_up 16 sheet (step_count sheet) (step_at sheet k).tag ≡ k
+  look_up_step k h =
+      ap (look_up 16 sheet (step_count sheet)) (sym (tag_at_lem sheet k))
+      ∙ look_up_tag_at 16 sheet (step_count sheet) (λ j q. not-true _ ((tag_means sheet j).1 (a.tags j q))) k h
 
   -- a jump that is there leads to the one step with its tag
-  pub target-step : (k : ℕ) → k < step_count sheet → target sheet (step_at sheet k).tag ≡ k
+  pub target_step : (k : ℕ) → k < step_count sheet → target sheet (step_at sheet k).tag ≡ k
   unfolding target
-  target-step k h =
-      rw (ne_eqb (step_at sheet k).tag 0 (λ z. omega (arith, (a.steps k h).tag))) (lookUp-step k h)
+  target_step k h =
+      rw (ne_eqb (step_at sheet k).tag 0 (λ z. omega (arith, (a.steps k h).tag))) (look_up_step k h)
 
   -- the step that a jump leads to has its tag
-  pub target-tag : (jump : ℕ) → Known sheet jump → (jump ≡ 0 → ⊥) → (step_at sheet (target sheet jump)).tag ≡ jump
-  target-tag jump k some =
+  pub target_tag : (jump : ℕ) → Known sheet jump → (jump ≡ 0 → ⊥) → (step_at sheet (target sheet jump)).tag ≡ jump
+  target_tag jump k some =
       let found = k some in
       ap (λ (t : ℕ). (step_at sheet (target sheet t)).tag) (sym found.2)
-      ∙ ap (λ (i : ℕ). (step_at sheet i).tag) (target-step found.0 found.1)
+      ∙ ap (λ (i : ℕ). (step_at sheet i).tag) (target_step found.0 found.1)
       ∙ found.2
 
   -- every jump, there or not, leads to a step of the sheet
-  pub target-within : (jump : ℕ) → Known sheet jump → target sheet jump < step_count sheet
-  target-within jump k =
+  pub target_within : (jump : ℕ) → Known sheet jump → target sheet jump < step_count sheet
+  target_within jump k =
       elim (ℕ_discrete jump 0) [
         | yes z ↦ subst (λ (t : ℕ). t < step_count sheet) (sym (target_absent sheet jump z)) count_least
-        | no z ↦ (let some = k z in subst (λ (t : ℕ). t < step_count sheet) (sym (ap (target sheet) (sym some.2) ∙ target-step some.0 some.1)) some.1)
+        | no z ↦ (let some = k z in subst (λ (t : ℕ). t < step_count sheet) (sym (ap (target sheet) (sym some.2) ∙ target_step some.0 some.1)) some.1)
       ]
 
   -- so does every exit of a step's node
-  pub node-leads : (k : ℕ) → k < step_count sheet → Leads (step_count sheet) (node_at sheet k)
+  pub node_leads : (k : ℕ) → k < step_count sheet → Leads (step_count sheet) (node_at sheet k)
   unfolding node_at
-  node-leads k h =
+  node_leads k h =
       record {
-        fault = target-within _ (a.jumps k h).fault;
-        sequence = target-within _ (a.jumps k h).sequence;
-        timeout = target-within _ (a.jumps k h).timeout;
+        fault = target_within _ (a.jumps k h).fault;
+        sequence = target_within _ (a.jumps k h).sequence;
+        timeout = target_within _ (a.jumps k h).timeout;
       }
 
   -- a step's node leads to step 0 by an exit that is absent
-  pub node-absent : (k : ℕ) → k < step_count sheet → AbsentExits (node_at sheet k)
+  pub node_absent : (k : ℕ) → k < step_count sheet → AbsentExits (node_at sheet k)
   unfolding node_at
-  node-absent k h =
+  node_absent k h =
       record {
         fault = λ z. target_absent sheet _ ((a.steps k h).faultjump.0 z);
         sequence = λ z. target_absent sheet _ ((a.steps k h).sequencejump.0 z);

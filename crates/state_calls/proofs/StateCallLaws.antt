@@ -32,20 +32,20 @@ start_written_lem bytes = chosen (eqb (length bytes) 8)
 -- ---- a tick
 
 module _ (bytes : Verdict) (received : State) (answer : Ticked) where
-  pub on-bytes-passed : bytes.number ≡ 0 → on_bytes bytes received answer ≡ answer
+  pub on_bytes_passed : bytes.number ≡ 0 → on_bytes bytes received answer ≡ answer
   unfolding on_bytes
-  on-bytes-passed e = rw (eq-eqb bytes.number 0 e)
+  on_bytes_passed e = rw (eq-eqb bytes.number 0 e)
 
-  pub on-bytes-refused : ¬ (bytes.number ≡ 0) → on_bytes bytes received answer ≡ refused_with bytes received
+  pub on_bytes_refused : ¬ (bytes.number ≡ 0) → on_bytes bytes received answer ≡ refused_with bytes received
   unfolding on_bytes
-  on-bytes-refused r = rw (ne_eqb bytes.number 0 r)
+  on_bytes_refused r = rw (ne_eqb bytes.number 0 r)
 
   -- where the call accepts, so did the test of the bytes
-  pub bytes-passed : (on_bytes bytes received answer).verdict.number ≡ 0 → bytes.number ≡ 0
-  bytes-passed e =
+  pub bytes_passed : (on_bytes bytes received answer).verdict.number ≡ 0 → bytes.number ≡ 0
+  bytes_passed e =
       elim (ℕ_discrete bytes.number 0) [
         | yes p ↦ p
-        | no p ↦ absurd (p (sym (ap (λ (t : Ticked). t.verdict.number) (on-bytes-refused p)) ∙ e))
+        | no p ↦ absurd (p (sym (ap (λ (t : Ticked). t.verdict.number) (on_bytes_refused p)) ∙ e))
       ]
 
 -- a state has eight
@@ -82,13 +82,13 @@ module _ (form : Form) (bytes state : List ℕ) {from : State} {told : Ticked} {
         ∙ ap (on_bytes (bytes_verdict state) (state_from state)) (t ∙ ap (λ (s : State). ticked form bytes s word) f)
 
     -- the answer, and the bytes afterwards
-    pub ticked-by : {r : Ticked} {after : List ℕ} → r ≡ answer
+    pub ticked_by : {r : Ticked} {after : List ℕ} → r ≡ answer
         → after ≡ cond (eqb answer.verdict.number 0) (copied (state_bytes answer.state) state) state
         → (r ≡ ticked_on form bytes state word) × (after ≡ state_after (ticked_on form bytes state word) state)
     unfolding ticked_on
-    ticked-by r w = (
+    ticked_by r w = (
       r ∙ is,
       w
           ∙ ap (λ (x : Ticked). cond (eqb x.verdict.number 0) (copied (state_bytes x.state) state) state) is
-          ∙ after_written state _ (bytes-passed (bytes_verdict state) (state_from state) (ticked form bytes (state_from state) word)),
+          ∙ after_written state _ (bytes_passed (bytes_verdict state) (state_from state) (ticked form bytes (state_from state) word)),
     )

@@ -9,7 +9,7 @@ use Rattle.records.specs.Lists.{each}
 use Rattle.records.specs.Words.{word_at, low_byte, high_byte}
 use Rattle.records.specs.Verdicts.{accepted, or_else, first_refusal}
 use Rattle.records.proofs.Every.{Bytes, none, ◌also◌}
-use Rattle.records.proofs.ListLaws.{each-elements}
+use Rattle.records.proofs.ListLaws.{each_elements}
 use Rattle.records.proofs.VerdictLaws.{unless_zero}
 use Rattle.records.proofs.TestLaws.{eq_test, unless_passed, all_pass}
 use Rattle.machine.specs.declared.State.{State}
@@ -56,4 +56,4 @@ write_back bytes fits e =
     let seventh : 0 ≡ get_or bytes 7 0 = omega (arith, stand.2) in
     (λ i. get_or bytes 0 0 ∷ held i ∷ low i ∷ high i ∷ fourth i ∷ fifth i ∷ sixth i ∷ seventh i ∷ [])
     ∙ ap (each (λ k. get_or bytes k 0) 0) (sym (eight bytes e))
-    ∙ each-elements bytes 0
+    ∙ each_elements bytes 0

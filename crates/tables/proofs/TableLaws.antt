@@ -13,13 +13,13 @@ use Rattle.tables.specs.Tables.{cell_at, cell_bytes, part_verdict, cell_written,
 
 -- ---- the part lent for a cell
 module _ (cell : Node) (part : List ℕ) where
-  pub part-taken : length part ≡ 12 → (accepted ≡ part_verdict part) × (cell_bytes cell ≡ cell_written cell part)
+  pub part_taken : length part ≡ 12 → (accepted ≡ part_verdict part) × (cell_bytes cell ≡ cell_written cell part)
   unfolding part_verdict cell_written
-  part-taken h = (rw (eq-eqb (length part) 12 h), rw (eq-eqb (length part) 12 h))
+  part_taken h = (rw (eq-eqb (length part) 12 h), rw (eq-eqb (length part) 12 h))
 
-  pub part-refused : (length part ≡ 12 → ⊥) → (refused 1 0 ≡ part_verdict part) × (part ≡ cell_written cell part)
+  pub part_refused : (length part ≡ 12 → ⊥) → (refused 1 0 ≡ part_verdict part) × (part ≡ cell_written cell part)
   unfolding part_verdict cell_written
-  part-refused h = (rw (ne_eqb (length part) 12 h), rw (ne_eqb (length part) 12 h))
+  part_refused h = (rw (ne_eqb (length part) 12 h), rw (ne_eqb (length part) 12 h))
 
 -- ---- the verdict on the fields of a cell that was decoded is the verdict on the fields of its bytes
 pub fields_of : {v : Verdict} {cell : Node} (table : List ℕ) (k : ℕ)

@@ -18,10 +18,10 @@ use Rattle.text.specs.contracts.Line.{the_type}
 
 -- ---- lists
 module _ {ℓ} {A : Type ℓ} where
-  take-joined : (n : ℕ) (s t : List A) → take n (take n s ++ t) ≡ take n (s ++ t)
-  take-joined zero s t = refl
-  take-joined (suc n) [] t = refl
-  take-joined (suc n) (a ∷ s) t = ap (λ (l : List A). a ∷ l) (take-joined n s t)
+  take_joined : (n : ℕ) (s t : List A) → take n (take n s ++ t) ≡ take n (s ++ t)
+  take_joined zero s t = refl
+  take_joined (suc n) [] t = refl
+  take_joined (suc n) (a ∷ s) t = ap (λ (l : List A). a ∷ l) (take_joined n s t)
 
   take_within : (n : ℕ) (l : List A) → take (min (length l) n) l ≡ take n l
   take_within zero l = ap (λ (k : ℕ). take k l) (min-zero (length l))
@@ -29,8 +29,8 @@ module _ {ℓ} {A : Type ℓ} where
   take_within (suc n) (a ∷ l) =
       ap (λ (k : ℕ). take k (a ∷ l)) (suc-min-suc (length l) n) ∙ ap (λ (r : List A). a ∷ r) (take_within n l)
 
-  drop-behind : (n : ℕ) (s l : List A) → length s ≤ n → drop n (s ++ drop (length s) l) ≡ drop n l
-  drop-behind n s l h =
+  drop_behind : (n : ℕ) (s l : List A) → length s ≤ n → drop n (s ++ drop (length s) l) ≡ drop n l
+  drop_behind n s l h =
       let past : length s + (n - length s) ≡ n = add-sub_of_le h in
       ap (λ (k : ℕ). drop k (s ++ drop (length s) l)) (sym past)
       ∙ drop-append-add s _ (n - length s)
@@ -56,7 +56,7 @@ written_rewritten line bytes h =
 
 rewritten_twice : (line : Line) (s t : List ℕ) → length s ≤ length t → rewritten (rewritten line s) t ≡ rewritten line t
 unfolding rewritten
-rewritten_twice line s t h = ap (λ (rest : List ℕ). line_of (t ++ rest) (length t)) (drop-behind (length t) s line.bytes h)
+rewritten_twice line s t h = ap (λ (rest : List ℕ). line_of (t ++ rest) (length t)) (drop_behind (length t) s line.bytes h)
 
 pub written_appended : (line : Line) (text : List ℕ) → written (appended line text) ≡ take 256 (written line ++ text)
 unfolding appended
@@ -68,7 +68,7 @@ appended_twice line s t =
     let all = written line ++ (s ++ t) in
     let text : take 256 (written (appended line s) ++ t) ≡ take 256 all =
     ap (λ (w : List ℕ). take 256 (w ++ t)) (written_appended line s)
-    ∙ take-joined 256 (written line ++ s) t
+    ∙ take_joined 256 (written line ++ s) t
     ∙ ap (take 256) (append_assoc (written line) s t)
     in
     ap (rewritten (appended line s)) text
@@ -80,9 +80,9 @@ module _ (line : Line) (whole : length line.bytes ≡ 256) where
   unfolding written
   written_length = length-take (min line.length 256) line.bytes ∙ omega arith
 
-  written-take : take (length (written line)) line.bytes ≡ written line
+  written_take : take (length (written line)) line.bytes ≡ written line
   unfolding written
-  written-take = ap (λ (n : ℕ). take n line.bytes) written_length
+  written_take = ap (λ (n : ℕ). take n line.bytes) written_length
 
   module _ (text : List ℕ) where
     standing : take 256 (written line ++ text)
@@ -92,19 +92,19 @@ module _ (line : Line) (whole : length line.bytes ≡ 256) where
         let past : start + (256 - start) ≡ 256 = omega (arith, written_length) in
         ap (λ (n : ℕ). take n (written line ++ text)) (sym past)
         ∙ take-append-add (written line) text (256 - start)
-        ∙ ap₂ (λ (s t : List ℕ). s ++ t) (sym written-take) (sym (take_within (256 - start) text))
+        ∙ ap₂ (λ (s t : List ℕ). s ++ t) (sym written_take) (sym (take_within (256 - start) text))
 
-    standing-length : length (take 256 (written line ++ text)) ≡ length (written line) + min (length text) (256 - length (written line))
-    standing-length = simp (length-take, length-append) (omega (arith, written_length))
+    standing_length : length (take 256 (written line ++ text)) ≡ length (written line) + min (length text) (256 - length (written line))
+    standing_length = simp (length-take, length-append) (omega (arith, written_length))
 
-    pub appended-pasted : (start count : ℕ) → start ≡ length (written line) → count ≡ min (length text) (256 - start)
+    pub appended_pasted : (start count : ℕ) → start ≡ length (written line) → count ≡ min (length text) (256 - start)
         → line_of (paste line.bytes start text count) (start + count) ≡ appended line text
     unfolding appended rewritten
-    appended-pasted start count p q =
+    appended_pasted start count p q =
         let counted : count ≡ min (length text) (256 - length (written line)) = q ∙ ap (λ (n : ℕ). min (length text) (256 - n)) p in
         ap₂ (λ (t : List ℕ) (n : ℕ). line_of (t ++ drop n line.bytes) n)
         (ap₂ (λ (m n : ℕ). take m line.bytes ++ take n text) p counted ∙ sym standing)
-        (ap₂ ◌+◌ p counted ∙ sym standing-length)
+        (ap₂ ◌+◌ p counted ∙ sym standing_length)
 
 -- ---- the fewest digits
 module _ (b least n : ℕ) (positive : 0 < b) where
@@ -115,8 +115,8 @@ module _ (b least n : ℕ) (positive : 0 < b) where
       omega arith
 
   -- two counts of digits that are the fewest are equal
-  pub fewest-equal : (j k : ℕ) → IsDigitCount b least n j → IsDigitCount b least n k → j ≡ k
-  fewest-equal j k fj fk =
+  pub fewest_equal : (j k : ℕ) → IsDigitCount b least n j → IsDigitCount b least n k → j ≡ k
+  fewest_equal j k fj fk =
       le_antisymm (le_of_suc-le-suc (lt_of_not-le (not_more j k fj fk))) (le_of_suc-le-suc (lt_of_not-le (not_more k j fk fj)))
 
 places_hit : (b n k more : ℕ) → n < b ^ k → places b n k (suc more) ≡ k
@@ -149,7 +149,7 @@ numeral_fewest b least most n k positive within holds fewest =
     let found = places_fewest b least n least (most - least) (omega arith) (λ h. absurd (not-less least h))
     (subst (λ (m : ℕ). n < b ^ m) (sym (add-sub_of_le within)) holds)
     in
-    ap (λ (m : ℕ). last_digits b m n) (fewest-equal b least n positive k _ fewest found)
+    ap (λ (m : ℕ). last_digits b m n) (fewest_equal b least n positive k _ fewest found)
   where
     not-less : (m : ℕ) → m < m → ⊥
     not-less m h = omega arith

@@ -86,56 +86,56 @@ pub record AcceptedTable (table : List ℕ) : Type 0 where
 
 module _ (table : List ℕ) where
   -- the length
-  pub length-accepted : (is_table table ≡ true) ↔ TableLength table
+  pub length_accepted : (is_table table ≡ true) ↔ TableLength table
   unfolding is_table
-  length-accepted = whole_test 12 (length table)
+  length_accepted = whole_test 12 (length table)
 
-  cell-means : (k : ℕ) → (eqb (cell_fault (cell_count table) (cell_at table k)).number 0 ≡ true) ↔ AcceptedCell (cell_count table) (cell_at table k)
-  cell-means k = (λ e. (cell_accepted _ _).0 ((eq_test _ _).0 e), λ a. (eq_test _ _).1 ((cell_accepted _ _).1 a))
+  cell_means : (k : ℕ) → (eqb (cell_fault (cell_count table) (cell_at table k)).number 0 ≡ true) ↔ AcceptedCell (cell_count table) (cell_at table k)
+  cell_means k = (λ e. (cell_accepted _ _).0 ((eq_test _ _).0 e), λ a. (eq_test _ _).1 ((cell_accepted _ _).1 a))
 
   -- one cell's fields
-  fields-accepted : (k : ℕ) → ((fields_verdict table k).number ≡ 0) ↔ AcceptedCell (cell_count table) (cell_at table k)
+  fields_accepted : (k : ℕ) → ((fields_verdict table k).number ≡ 0) ↔ AcceptedCell (cell_count table) (cell_at table k)
   unfolding fields_verdict
-  fields-accepted k = (unless_passed (cell-means k) _ _ (omega arith), unless_passes (cell-means k) _ _)
+  fields_accepted k = (unless_passed (cell_means k) _ _ (omega arith), unless_passes (cell_means k) _ _)
 
   -- one cell's verdict
-  pub verdict-accepted : (k : ℕ)
+  pub verdict_accepted : (k : ℕ)
       → ((cell_verdict table k).number ≡ 0) ↔ (TableLength table × (k < cell_count table) × AcceptedCell (cell_count table) (cell_at table k))
   unfolding cell_verdict cell_tests
-  verdict-accepted k = (
+  verdict_accepted k = (
     λ e.
         elim (all_pass _ e) [
           | size also below also fields also none ↦
-              (unless_passed length-accepted _ _ (omega arith) size, unless_passed (lt_test _ _) _ _ (omega arith) below, (fields-accepted k).0 fields)
+              (unless_passed length_accepted _ _ (omega arith) size, unless_passed (lt_test _ _) _ _ (omega arith) below, (fields_accepted k).0 fields)
         ],
     λ h.
         all_zero _ (
-        unless_passes length-accepted _ _ h.0 also
+        unless_passes length_accepted _ _ h.0 also
         unless_passes (lt_test _ _) _ _ h.1 also
-        (fields-accepted k).1 h.2 also
+        (fields_accepted k).1 h.2 also
         none),
   )
 
   -- "4 | a field ... out of its range | ... cell"
-  pub cells-test : NamesLowest (first_refusal (each (fields_verdict table) 0 (cell_count table))) 4 (cell_count table)
+  pub cells_test : NamesLowest (first_refusal (each (fields_verdict table) 0 (cell_count table))) 4 (cell_count table)
       (λ k. AcceptedCell (cell_count table) (cell_at table k))
   unfolding fields_verdict
-  cells-test = names_lowest _ _ _ (omega arith) _ cell-means
+  cells_test = names_lowest _ _ _ (omega arith) _ cell_means
 
   -- the length first, and then the cells
-  pub verdict-parts : table_verdict table ≡ or_else (refused_unless (is_table table) 1 0) (first_refusal (each (fields_verdict table) 0 (cell_count table)))
+  pub verdict_parts : table_verdict table ≡ or_else (refused_unless (is_table table) 1 0) (first_refusal (each (fields_verdict table) 0 (cell_count table)))
   unfolding table_verdict
-  verdict-parts = first_cons _ _
+  verdict_parts = first_cons _ _
 
   -- a table is accepted exactly when the paper's conditions hold
-  pub table-accepted : ((table_verdict table).number ≡ 0) ↔ AcceptedTable table
-  table-accepted = (
+  pub table_accepted : ((table_verdict table).number ≡ 0) ↔ AcceptedTable table
+  table_accepted = (
     λ e.
-        let both = or_else_zero _ _ (ap (λ (v : Verdict). v.number) (sym verdict-parts) ∙ e) in
-        record { size = unless_passed length-accepted _ _ (omega arith) both.0; cells = cells-test.accepts.0 both.1 },
+        let both = or_else_zero _ _ (ap (λ (v : Verdict). v.number) (sym verdict_parts) ∙ e) in
+        record { size = unless_passed length_accepted _ _ (omega arith) both.0; cells = cells_test.accepts.0 both.1 },
     λ a.
-        ap (λ (v : Verdict). v.number) (verdict-parts ∙ or_else_pass _ _ (unless_passes length-accepted _ _ a.size))
-        ∙ cells-test.accepts.1 a.cells,
+        ap (λ (v : Verdict). v.number) (verdict_parts ∙ or_else_pass _ _ (unless_passes length_accepted _ _ a.size))
+        ∙ cells_test.accepts.1 a.cells,
   )
 
 -- ---- what follows from acceptance

@@ -10,7 +10,7 @@ use Rattle.records.proofs.VerdictLaws.{or_else_pass}
 use Rattle.records.proofs.TestLaws.{unless_passed, unless_passes, unless_shows, refusal_shows, LowestWithout}
 use Rattle.steps.specs.Steps.{step_at, step_count}
 use Rattle.sheets.specs.Sheets.{is_sheet, fields_verdict, repeats_verdict, unknown_verdict, sheet_tests, sheet_verdict}
-use Rattle.sheets.proofs.AcceptedSheet.{AcceptedStep, sheet-accepted, SheetLength, Fresh, KnownJumps, length-accepted, fields-test, repeats-test, unknown-test}
+use Rattle.sheets.proofs.AcceptedSheet.{AcceptedStep, sheet_accepted, SheetLength, Fresh, KnownJumps, length_accepted, fields_test, repeats_test, unknown_test}
 
 -- "Tests: length; fields of every step; repeated tags; unknown tags"; "The lowest step is named."
 pub data Refused (sheet : List ℕ) : Verdict → Type 0 where
@@ -34,65 +34,65 @@ module _ (sheet : List ℕ) where
   size : Verdict
   size = refused_unless (is_sheet sheet) 1 0
 
-  size-passes : SheetLength sheet → size.number ≡ 0
+  size_passes : SheetLength sheet → size.number ≡ 0
   unfolding size
-  size-passes h = unless_passes (length-accepted sheet) _ _ h
+  size_passes h = unless_passes (length_accepted sheet) _ _ h
 
-  size-fails : (SheetLength sheet → ⊥) → size ≡ record { number = 1; place = 0 }
+  size_fails : (SheetLength sheet → ⊥) → size ≡ record { number = 1; place = 0 }
   unfolding size
-  size-fails r = unless_shows (is_sheet sheet) 1 0 (length-accepted sheet) r
+  size_fails r = unless_shows (is_sheet sheet) 1 0 (length_accepted sheet) r
 
   parts : sheet_verdict sheet ≡ or_else size (or_else (fields_verdict sheet) (or_else (repeats_verdict sheet) (or_else (unknown_verdict sheet) accepted)))
   unfolding sheet_verdict sheet_tests size first_refusal
   parts = refl
 
   -- each refusal is the sheet's verdict
-  pub refused-shows : {v : Verdict} → Refused sheet v → sheet_verdict sheet ≡ v
-  refused-shows (by_length r) = parts ∙ refusal_shows _ _ (omega arith) (size-fails r)
-  refused-shows (by_fields j h low) = parts ∙ or_else_pass _ _ (size-passes h) ∙ refusal_shows _ _ (omega arith) ((fields-test sheet).names j low)
-  refused-shows (by_repeat j h fields low) =
+  pub refused_shows : {v : Verdict} → Refused sheet v → sheet_verdict sheet ≡ v
+  refused_shows (by_length r) = parts ∙ refusal_shows _ _ (omega arith) (size_fails r)
+  refused_shows (by_fields j h low) = parts ∙ or_else_pass _ _ (size_passes h) ∙ refusal_shows _ _ (omega arith) ((fields_test sheet).names j low)
+  refused_shows (by_repeat j h fields low) =
       parts
-      ∙ or_else_pass _ _ (size-passes h)
-      ∙ or_else_pass _ _ ((fields-test sheet).accepts.1 fields)
-      ∙ refusal_shows _ _ (omega arith) ((repeats-test sheet).names j low)
-  refused-shows (by_unknown j h fields tags low) =
+      ∙ or_else_pass _ _ (size_passes h)
+      ∙ or_else_pass _ _ ((fields_test sheet).accepts.1 fields)
+      ∙ refusal_shows _ _ (omega arith) ((repeats_test sheet).names j low)
+  refused_shows (by_unknown j h fields tags low) =
       parts
-      ∙ or_else_pass _ _ (size-passes h)
-      ∙ or_else_pass _ _ ((fields-test sheet).accepts.1 fields)
-      ∙ or_else_pass _ _ ((repeats-test sheet).accepts.1 tags)
-      ∙ refusal_shows _ _ (omega arith) ((unknown-test sheet).names j low)
+      ∙ or_else_pass _ _ (size_passes h)
+      ∙ or_else_pass _ _ ((fields_test sheet).accepts.1 fields)
+      ∙ or_else_pass _ _ ((repeats_test sheet).accepts.1 tags)
+      ∙ refusal_shows _ _ (omega arith) ((unknown_test sheet).names j low)
 
   it : {v : Verdict} → Refused sheet v → Refused sheet (sheet_verdict sheet)
-  it refused = subst (Refused sheet) (sym (refused-shows refused)) refused
+  it refused = subst (Refused sheet) (sym (refused_shows refused)) refused
 
   -- and a verdict that refuses is one of them
-  pub shows-refused : ((sheet_verdict sheet).number ≡ 0 → ⊥) → Refused sheet (sheet_verdict sheet)
+  pub shows_refused : ((sheet_verdict sheet).number ≡ 0 → ⊥) → Refused sheet (sheet_verdict sheet)
   unfolding size
-  shows-refused r =
+  shows_refused r =
       elim (ℕ_discrete size.number 0) [
-        | no p ↦ it (by_length (λ h. p (size-passes h)))
-        | yes p ↦ sized (unless_passed (length-accepted sheet) _ _ (omega arith) p)
+        | no p ↦ it (by_length (λ h. p (size_passes h)))
+        | yes p ↦ sized (unless_passed (length_accepted sheet) _ _ (omega arith) p)
       ]
     where
       known : SheetLength sheet → ((k : ℕ) → k < step_count sheet → AcceptedStep (step_at sheet k)) → ((k : ℕ) → k < step_count sheet → Fresh sheet k)
           → Refused sheet (sheet_verdict sheet)
       known h fields tags =
           elim (ℕ_discrete (unknown_verdict sheet).number 0) [
-            | no p ↦ (let low = (unknown-test sheet).refuses p in it (by_unknown low.0 h fields tags low.1))
+            | no p ↦ (let low = (unknown_test sheet).refuses p in it (by_unknown low.0 h fields tags low.1))
             | yes p ↦ absurd
-                (r ((sheet-accepted sheet).1 (record { size = h; steps = fields; tags = tags; jumps = (unknown-test sheet).accepts.0 p })))
+                (r ((sheet_accepted sheet).1 (record { size = h; steps = fields; tags = tags; jumps = (unknown_test sheet).accepts.0 p })))
           ]
 
       fresh : SheetLength sheet → ((k : ℕ) → k < step_count sheet → AcceptedStep (step_at sheet k)) → Refused sheet (sheet_verdict sheet)
       fresh h fields =
           elim (ℕ_discrete (repeats_verdict sheet).number 0) [
-            | no p ↦ (let low = (repeats-test sheet).refuses p in it (by_repeat low.0 h fields low.1))
-            | yes p ↦ known h fields ((repeats-test sheet).accepts.0 p)
+            | no p ↦ (let low = (repeats_test sheet).refuses p in it (by_repeat low.0 h fields low.1))
+            | yes p ↦ known h fields ((repeats_test sheet).accepts.0 p)
           ]
 
       sized : SheetLength sheet → Refused sheet (sheet_verdict sheet)
       sized h =
           elim (ℕ_discrete (fields_verdict sheet).number 0) [
-            | no p ↦ (let low = (fields-test sheet).refuses p in it (by_fields low.0 h low.1))
-            | yes p ↦ fresh h ((fields-test sheet).accepts.0 p)
+            | no p ↦ (let low = (fields_test sheet).refuses p in it (by_fields low.0 h low.1))
+            | yes p ↦ fresh h ((fields_test sheet).accepts.0 p)
           ]

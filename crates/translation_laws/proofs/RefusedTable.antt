@@ -10,7 +10,7 @@ use Rattle.records.specs.declared.Verdict.{Verdict}
 use Rattle.records.proofs.VerdictLaws.{or_else_pass}
 use Rattle.records.proofs.TestLaws.{unless_passed, unless_passes, unless_shows, refusal_shows, LowestWithout}
 use Rattle.tables.specs.Tables.{is_table, cell_count, cell_at, fields_verdict, table_verdict}
-use Rattle.translation_laws.proofs.AcceptedTable.{AcceptedCell, TableLength, length-accepted, cells-test, verdict-parts, table-accepted}
+use Rattle.translation_laws.proofs.AcceptedTable.{AcceptedCell, TableLength, length_accepted, cells_test, verdict_parts, table_accepted}
 
 -- the length first; then the lowest cell that is out of range
 pub data Refused (table : List ℕ) : Verdict → Type 0 where
@@ -20,26 +20,26 @@ pub data Refused (table : List ℕ) : Verdict → Type 0 where
 
 module _ (table : List ℕ) where
   -- each refusal is the table's verdict
-  pub refused-shows : {v : Verdict} → Refused table v → table_verdict table ≡ v
-  refused-shows (by_length r) =
-      verdict-parts table ∙ refusal_shows _ _ (omega arith) (unless_shows (is_table table) 1 0 (length-accepted table) r)
-  refused-shows (by_cell j h low) =
-      verdict-parts table ∙ or_else_pass _ _ (unless_passes (length-accepted table) _ _ h) ∙ (cells-test table).names j low
+  pub refused_shows : {v : Verdict} → Refused table v → table_verdict table ≡ v
+  refused_shows (by_length r) =
+      verdict_parts table ∙ refusal_shows _ _ (omega arith) (unless_shows (is_table table) 1 0 (length_accepted table) r)
+  refused_shows (by_cell j h low) =
+      verdict_parts table ∙ or_else_pass _ _ (unless_passes (length_accepted table) _ _ h) ∙ (cells_test table).names j low
 
   it : {v : Verdict} → Refused table v → Refused table (table_verdict table)
-  it refused = subst (Refused table) (sym (refused-shows refused)) refused
+  it refused = subst (Refused table) (sym (refused_shows refused)) refused
 
   -- and a verdict that refuses is one of them
-  pub shows-refused : ((table_verdict table).number ≡ 0 → ⊥) → Refused table (table_verdict table)
-  shows-refused r =
+  pub shows_refused : ((table_verdict table).number ≡ 0 → ⊥) → Refused table (table_verdict table)
+  shows_refused r =
       elim (ℕ_discrete (refused_unless (is_table table) 1 0).number 0) [
-        | no p ↦ it (by_length (λ h. p (unless_passes (length-accepted table) _ _ h)))
-        | yes p ↦ sized (unless_passed (length-accepted table) _ _ (omega arith) p)
+        | no p ↦ it (by_length (λ h. p (unless_passes (length_accepted table) _ _ h)))
+        | yes p ↦ sized (unless_passed (length_accepted table) _ _ (omega arith) p)
       ]
     where
       sized : TableLength table → Refused table (table_verdict table)
       sized h =
           elim (ℕ_discrete (first_refusal (each (fields_verdict table) 0 (cell_count table))).number 0) [
-            | no p ↦ (let low = (cells-test table).refuses p in it (by_cell low.0 h low.1))
-            | yes p ↦ absurd (r ((table-accepted table).1 (record { size = h; cells = (cells-test table).accepts.0 p })))
+            | no p ↦ (let low = (cells_test table).refuses p in it (by_cell low.0 h low.1))
+            | yes p ↦ absurd (r ((table_accepted table).1 (record { size = h; cells = (cells_test table).accepts.0 p })))
           ]

@@ -9,13 +9,13 @@ use native.Mathlib.Omega.{arith}
 use Rattle.machine.specs.Machine.{shares, met, enter, after, start_state, tick_on}
 use Rattle.machine.specs.declared.Node.{Node}
 use Rattle.machine.specs.declared.State.{State}
-use Rattle.machine.proofs.StandLaws.{Stands, state_path, after-fault, after-sequence, quiet-rests, quiet-rises, quiet-ends}
+use Rattle.machine.proofs.StandLaws.{Stands, state_path, after_fault, after_sequence, quiet_rests, quiet_rises, quiet_ends}
 use Rattle.steps.specs.Steps.{step_at, step_count}
 use Rattle.sheets.specs.Sheets.{node_at}
 use Rattle.translator.specs.Translation.{cells_for, cells_of, first_cell, cell_total, cut_at}
 use Rattle.translator.proofs.CellCounts.{cells_0, cells_enough}
-use Rattle.translator.proofs.CutLaws.{last-timeout, last-to, inner-timeout, inner-to}
-use Rattle.translator.proofs.CutLeads.{step-within}
+use Rattle.translator.proofs.CutLaws.{last_timeout, last_to, inner_timeout, inner_to}
+use Rattle.translator.proofs.CutLeads.{step_within}
 
 -- ---- the table's state for a sheet's state
 
@@ -65,11 +65,11 @@ Follows sheet word state =
 -- ---- a tick that takes neither the fault nor the sequence exit
 module _ (sheet : List ℕ) (word : ℕ) (state : State) (early : state.elapsed < max 1 (node_at sheet state.at).timeout)
     (s : shares (node_at sheet state.at) word ≡ false) (m : met (node_at sheet state.at) word ≡ false) where
-  cut-s : shares (cut_of sheet state) word ≡ false
-  cut-s = same_shares sheet state.at (state.elapsed / 4000) word ∙ s
+  cut_s : shares (cut_of sheet state) word ≡ false
+  cut_s = same_shares sheet state.at (state.elapsed / 4000) word ∙ s
 
-  cut-m : met (cut_of sheet state) word ≡ false
-  cut-m = same_met sheet state.at (state.elapsed / 4000) word ∙ m
+  cut_m : met (cut_of sheet state) word ≡ false
+  cut_m = same_met sheet state.at (state.elapsed / 4000) word ∙ m
 
   -- without a timeout both stay
   both_rest : (node_at sheet state.at).timeout ≡ 0
@@ -78,31 +78,31 @@ module _ (sheet : List ℕ) (word : ℕ) (state : State) (early : state.elapsed 
   both_rest z =
       let first : state.elapsed / 4000 ≡ 0 = omega arith in
       let last : state.elapsed / 4000 + 1 ≡ cells_of sheet state.at = ap (λ (j : ℕ). j + 1) first ∙ sym cells_0 ∙ ap cells_for (sym z) in
-      let none : (cut_of sheet state).timeout ≡ 0 = last-timeout sheet state.at (state.elapsed / 4000) last ∙ omega arith in
-      quiet-rests (cut_of sheet state) word (table_state sheet state) cut-s cut-m none
+      let none : (cut_of sheet state).timeout ≡ 0 = last_timeout sheet state.at (state.elapsed / 4000) last ∙ omega arith in
+      quiet_rests (cut_of sheet state) word (table_state sheet state) cut_s cut_m none
       ∙ state_path (ap (λ (j : ℕ). first_cell sheet state.at + j) first) refl
-      ∙ ap (table_state sheet) (sym (quiet-rests (node_at sheet state.at) word state s m z))
+      ∙ ap (table_state sheet) (sym (quiet_rests (node_at sheet state.at) word state s m z))
 
   -- both stay, and the table in its cut
-  both-rise : state.elapsed + 1 < (node_at sheet state.at).timeout → state.elapsed % 4000 + 1 < (cut_of sheet state).timeout
+  both_rise : state.elapsed + 1 < (node_at sheet state.at).timeout → state.elapsed % 4000 + 1 < (cut_of sheet state).timeout
       → (state.elapsed + 1) / 4000 ≡ state.elapsed / 4000
       → Follows sheet word state
   unfolding table_state
-  both-rise more inside same =
-      quiet-rises (cut_of sheet state) word (table_state sheet state) cut-s cut-m inside
+  both_rise more inside same =
+      quiet_rises (cut_of sheet state) word (table_state sheet state) cut_s cut_m inside
       ∙ state_path (ap (λ (j : ℕ). first_cell sheet state.at + j) (sym same)) (omega arith)
-      ∙ ap (table_state sheet) (sym (quiet-rises (node_at sheet state.at) word state s m more))
+      ∙ ap (table_state sheet) (sym (quiet_rises (node_at sheet state.at) word state s m more))
 
   -- the sheet stays, and the table goes on to the following cut
-  next-cut : state.elapsed + 1 < (node_at sheet state.at).timeout → (state.elapsed / 4000 + 1 ≡ cells_of sheet state.at → ⊥)
+  next_cut : state.elapsed + 1 < (node_at sheet state.at).timeout → (state.elapsed / 4000 + 1 ≡ cells_of sheet state.at → ⊥)
       → state.elapsed % 4000 + 1 ≡ 4000
       → Follows sheet word state
   unfolding table_state
-  next-cut more inner full =
-      let whole : (cut_of sheet state).timeout ≡ 4000 = inner-timeout sheet state.at (state.elapsed / 4000) inner in
-      quiet-ends (cut_of sheet state) word (table_state sheet state) cut-s cut-m (omega arith) (omega arith)
-      ∙ state_path (inner-to sheet state.at (state.elapsed / 4000) inner ∙ omega arith) (omega arith)
-      ∙ ap (table_state sheet) (sym (quiet-rises (node_at sheet state.at) word state s m more))
+  next_cut more inner full =
+      let whole : (cut_of sheet state).timeout ≡ 4000 = inner_timeout sheet state.at (state.elapsed / 4000) inner in
+      quiet_ends (cut_of sheet state) word (table_state sheet state) cut_s cut_m (omega arith) (omega arith)
+      ∙ state_path (inner_to sheet state.at (state.elapsed / 4000) inner ∙ omega arith) (omega arith)
+      ∙ ap (table_state sheet) (sym (quiet_rises (node_at sheet state.at) word state s m more))
 
   -- both take the timeout exit
   both_end : (node_at sheet state.at).timeout ≡ state.elapsed + 1
@@ -110,68 +110,68 @@ module _ (sheet : List ℕ) (word : ℕ) (state : State) (early : state.elapsed 
   unfolding node_at cells_for table_state
   both_end reached =
       let last : state.elapsed / 4000 + 1 ≡ cells_of sheet state.at = omega arith in
-      let rest : (cut_of sheet state).timeout ≡ (node_at sheet state.at).timeout - 4000 * (state.elapsed / 4000) = last-timeout sheet state.at (state.elapsed / 4000) last in
-      quiet-ends (cut_of sheet state) word (table_state sheet state) cut-s cut-m (omega arith) (omega arith)
-      ∙ ap enter (last-to sheet state.at (state.elapsed / 4000) last)
+      let rest : (cut_of sheet state).timeout ≡ (node_at sheet state.at).timeout - 4000 * (state.elapsed / 4000) = last_timeout sheet state.at (state.elapsed / 4000) last in
+      quiet_ends (cut_of sheet state) word (table_state sheet state) cut_s cut_m (omega arith) (omega arith)
+      ∙ ap enter (last_to sheet state.at (state.elapsed / 4000) last)
       ∙ sym (enter_follows sheet (node_at sheet state.at).timeoutto)
-      ∙ ap (table_state sheet) (sym (quiet-ends (node_at sheet state.at) word state s m (omega arith) (omega arith)))
+      ∙ ap (table_state sheet) (sym (quiet_ends (node_at sheet state.at) word state s m (omega arith) (omega arith)))
 
   -- in every case of the timer
-  quiet-follows : Follows sheet word state
-  quiet-follows =
+  quiet_follows : Follows sheet word state
+  quiet_follows =
       elim (ℕ_discrete (node_at sheet state.at).timeout 0) [
         | yes z ↦ both_rest z
         | no z ↦ elim (dec_lt (state.elapsed + 1) (node_at sheet state.at).timeout) [
           | no p ↦ both_end (omega arith)
           | yes p ↦ elim (ℕ_discrete (state.elapsed / 4000 + 1) (cells_of sheet state.at)) [
-            | yes q ↦ last-rise p q
-            | no q ↦ elim (ℕ_discrete (state.elapsed % 4000 + 1) 4000) [ yes r ↦ next-cut p q r | no r ↦ inner-rise p q (omega arith) ]
+            | yes q ↦ last_rise p q
+            | no q ↦ elim (ℕ_discrete (state.elapsed % 4000 + 1) 4000) [ yes r ↦ next_cut p q r | no r ↦ inner_rise p q (omega arith) ]
           ]
         ]
       ]
     where
-      last-rise : state.elapsed + 1 < (node_at sheet state.at).timeout → state.elapsed / 4000 + 1 ≡ cells_of sheet state.at
+      last_rise : state.elapsed + 1 < (node_at sheet state.at).timeout → state.elapsed / 4000 + 1 ≡ cells_of sheet state.at
           → Follows sheet word state
-      last-rise p q =
+      last_rise p q =
           let enough : (step_at sheet state.at).timeout ≤ 4000 * cells_of sheet state.at = cells_enough (step_at sheet state.at).timeout in
-          let rest : (cut_of sheet state).timeout ≡ (step_at sheet state.at).timeout - 4000 * (state.elapsed / 4000) = last-timeout sheet state.at (state.elapsed / 4000) q in
+          let rest : (cut_of sheet state).timeout ≡ (step_at sheet state.at).timeout - 4000 * (state.elapsed / 4000) = last_timeout sheet state.at (state.elapsed / 4000) q in
           let same : (node_at sheet state.at).timeout ≡ (step_at sheet state.at).timeout = node_timeout sheet state.at in
-          both-rise p (omega arith) (omega arith)
+          both_rise p (omega arith) (omega arith)
 
-      inner-rise : state.elapsed + 1 < (node_at sheet state.at).timeout → (state.elapsed / 4000 + 1 ≡ cells_of sheet state.at → ⊥)
+      inner_rise : state.elapsed + 1 < (node_at sheet state.at).timeout → (state.elapsed / 4000 + 1 ≡ cells_of sheet state.at → ⊥)
           → state.elapsed % 4000 + 1 < 4000
           → Follows sheet word state
-      inner-rise p q r =
-          let whole : (cut_of sheet state).timeout ≡ 4000 = inner-timeout sheet state.at (state.elapsed / 4000) q in
-          both-rise p (omega arith) (omega arith)
+      inner_rise p q r =
+          let whole : (cut_of sheet state).timeout ≡ 4000 = inner_timeout sheet state.at (state.elapsed / 4000) q in
+          both_rise p (omega arith) (omega arith)
 
 -- ---- any tick
 
 module _ (sheet : List ℕ) (word : ℕ) (state : State) (early : state.elapsed < max 1 (node_at sheet state.at).timeout) where
-  cut-follows : Follows sheet word state
+  cut_follows : Follows sheet word state
   unfolding cut_at
-  cut-follows = split (shares (node_at sheet state.at) word) refl (met (node_at sheet state.at) word) refl
+  cut_follows = split (shares (node_at sheet state.at) word) refl (met (node_at sheet state.at) word) refl
     where
       split : (s : Bool) → shares (node_at sheet state.at) word ≡ s → (m : Bool) → met (node_at sheet state.at) word ≡ m
           → Follows sheet word state
       split true s m e =
-          after-fault (cut_of sheet state) word (table_state sheet state) (same_shares sheet state.at (state.elapsed / 4000) word ∙ s)
+          after_fault (cut_of sheet state) word (table_state sheet state) (same_shares sheet state.at (state.elapsed / 4000) word ∙ s)
           ∙ sym (enter_follows sheet (node_at sheet state.at).faultto)
-          ∙ ap (table_state sheet) (sym (after-fault (node_at sheet state.at) word state s))
+          ∙ ap (table_state sheet) (sym (after_fault (node_at sheet state.at) word state s))
       split false s true e =
-          after-sequence (cut_of sheet state) word (table_state sheet state) (same_shares sheet state.at (state.elapsed / 4000) word ∙ s)
+          after_sequence (cut_of sheet state) word (table_state sheet state) (same_shares sheet state.at (state.elapsed / 4000) word ∙ s)
           (same_met sheet state.at (state.elapsed / 4000) word ∙ e)
           ∙ sym (enter_follows sheet (node_at sheet state.at).sequenceto)
-          ∙ ap (table_state sheet) (sym (after-sequence (node_at sheet state.at) word state s e))
-      split false s false e = quiet-follows sheet word state early s e
+          ∙ ap (table_state sheet) (sym (after_sequence (node_at sheet state.at) word state s e))
+      split false s false e = quiet_follows sheet word state early s e
 
 -- the ticks past a cut's start are fewer than its timeout, or none
 cut_early : (sheet : List ℕ) (state : State) → Stands (node_at sheet) (step_count sheet) state → state.elapsed % 4000 < max 1 (cut_of sheet state).timeout
 cut_early sheet state stands =
     let same : (node_at sheet state.at).timeout ≡ (step_at sheet state.at).timeout = node_timeout sheet state.at in
     elim (ℕ_discrete (state.elapsed / 4000 + 1) (cells_of sheet state.at)) [
-      | yes e ↦ omega (arith, last-timeout sheet state.at (state.elapsed / 4000) e, stands.early)
-      | no e ↦ omega (arith, inner-timeout sheet state.at (state.elapsed / 4000) e)
+      | yes e ↦ omega (arith, last_timeout sheet state.at (state.elapsed / 4000) e, stands.early)
+      | no e ↦ omega (arith, inner_timeout sheet state.at (state.elapsed / 4000) e)
     ]
 
 -- ---- the table's cells
@@ -188,7 +188,7 @@ module _ (sheet : List ℕ) (cells : ℕ → Node) (cut : Cells sheet cells) (st
   -- a tick of the table from the state that stands for the sheet's gives the state that stands for the sheet's next
   pub tick_follows : (word : ℕ) → tick_on cells word (table_state sheet state) ≡ table_state sheet (tick_on (node_at sheet) word state)
   unfolding tick_on
-  tick_follows word = ap (λ (n : Node). after n word (table_state sheet state)) here ∙ cut-follows sheet word state stands.early
+  tick_follows word = ap (λ (n : Node). after n word (table_state sheet state)) here ∙ cut_follows sheet word state stands.early
 
   -- it shows the sheet's outputs
   pub outputs_follow : (cells (table_state sheet state).at).outputs ≡ (node_at sheet state.at).outputs
@@ -201,10 +201,10 @@ module _ (sheet : List ℕ) (cells : ℕ → Node) (cut : Cells sheet cells) (st
   step_follows = ap (λ (n : Node). n.step) here
 
   -- and stands in the table
-  pub state-follows : Stands cells (cell_total sheet) (table_state sheet state)
+  pub state_follows : Stands cells (cell_total sheet) (table_state sheet state)
   unfolding table_state
-  state-follows =
+  state_follows =
       record {
-        within = omega (arith, cut_within sheet state stands, step-within sheet state.at stands.within);
+        within = omega (arith, cut_within sheet state stands, step_within sheet state.at stands.within);
         early = subst (λ (n : Node). state.elapsed % 4000 < max 1 n.timeout) (sym here) (cut_early sheet state stands);
       }

@@ -14,7 +14,7 @@ use Rattle.machine.specs.Machine.{start_state, tick_at, tick_on}
 use Rattle.machine.specs.declared.Node.{Node}
 use Rattle.machine.specs.declared.State.{State}
 use Rattle.machine.proofs.FieldLaws.{word_range, elapsed_range}
-use Rattle.machine.proofs.StandLaws.{Leads, Stands, enter-stands, tick-stands}
+use Rattle.machine.proofs.StandLaws.{Leads, Stands, enter_stands, tick_stands}
 use Rattle.tables.specs.Tables.{table_verdict}
 use Rattle.translation_laws.proofs.AcceptedTable as tables
 use Rattle.steps.specs.Steps.{step_count}
@@ -56,10 +56,10 @@ steps_of table_form table = 63
 pub sound : (form : Form) (bytes : List ℕ) → (whole_verdict form bytes).number ≡ 0 → Sound (nodes_of form bytes) (count_of form bytes) (steps_of form bytes)
 unfolding node_at
 sound sheet_form sheet good =
-    let a = (sheets.sheet-accepted sheet).0 good in
-    record { least = sheets.count_least sheet a; leads = sheets.node-leads sheet a; outputs = λ k h. (a.steps k h).outputs; step = λ k h. h }
+    let a = (sheets.sheet_accepted sheet).0 good in
+    record { least = sheets.count_least sheet a; leads = sheets.node_leads sheet a; outputs = λ k h. (a.steps k h).outputs; step = λ k h. h }
 sound table_form table good =
-    let a = (tables.table-accepted table).0 good in
+    let a = (tables.table_accepted table).0 good in
     record { least = tables.count_least table a; leads = λ k h. (a.cells k h).leads; outputs = λ k h. (a.cells k h).outputs; step = λ k h. omega (arith, (a.cells k h).step) }
 
 -- a state of an accepted one stands at a number below the count
@@ -70,8 +70,8 @@ stood sheet_form sheet good k = (
   λ h. all_zero _ (good also unless_passes (lt_test _ _) _ _ h also none),
 )
 stood table_form table good k =
-    let all = (tables.table-accepted table).0 good in
-    (λ e. ((tables.verdict-accepted table k).0 e).1, λ h. (tables.verdict-accepted table k).1 (all.size, h, all.cells k h))
+    let all = (tables.table_accepted table).0 good in
+    (λ e. ((tables.verdict_accepted table k).0 e).1, λ h. (tables.verdict_accepted table k).1 (all.size, h, all.cells k h))
 
 -- a sheet of which a state is accepted is accepted
 pub sheet_whole : (sheet : List ℕ) (state : State) → (sheet_state_verdict sheet state).number ≡ 0 → (sheet_verdict sheet).number ≡ 0
@@ -88,9 +88,9 @@ taken form bytes state word e h =
 
 module _ (form : Form) (bytes : List ℕ) (good : (whole_verdict form bytes).number ≡ 0) where
   -- a state is accepted exactly when it stands
-  pub state-stands : (state : State) → ((state_verdict form bytes state).number ≡ 0) ↔ Stands (nodes_of form bytes) (count_of form bytes) state
+  pub state_stands : (state : State) → ((state_verdict form bytes state).number ≡ 0) ↔ Stands (nodes_of form bytes) (count_of form bytes) state
   unfolding state_verdict state_tested
-  state-stands state = (
+  state_stands state = (
     λ e.
         elim (all_pass _ e) [
           | stands also early also none ↦
@@ -105,14 +105,14 @@ module _ (form : Form) (bytes : List ℕ) (good : (whole_verdict form bytes).num
 
   -- the start is accepted
   pub start_accepted : (state_verdict form bytes start_state).number ≡ 0
-  start_accepted = (state-stands start_state).1 (enter-stands (nodes_of form bytes) (count_of form bytes) 0 (sound form bytes good).least)
+  start_accepted = (state_stands start_state).1 (enter_stands (nodes_of form bytes) (count_of form bytes) 0 (sound form bytes good).least)
 
   module _ (state : State) (word : ℕ) (e : (state_verdict form bytes state).number ≡ 0) where
     -- the next state is accepted again
     pub kept : (state_verdict form bytes (tick_on (nodes_of form bytes) word state)).number ≡ 0
     kept =
-        (state-stands (tick_on (nodes_of form bytes) word state)).1
-        (tick-stands (nodes_of form bytes) (count_of form bytes) (sound form bytes good).leads word state ((state-stands state).0 e))
+        (state_stands (tick_on (nodes_of form bytes) word state)).1
+        (tick_stands (nodes_of form bytes) (count_of form bytes) (sound form bytes good).leads word state ((state_stands state).0 e))
 
     -- no tick from an accepted state with a word below 1024 is refused, and the state is accepted again
     pub ticks : word < 1024 → ((ticked form bytes state word).verdict.number ≡ 0) × (state_verdict form bytes (ticked form bytes state word).state ≡ accepted)
@@ -125,5 +125,5 @@ module _ (form : Form) (bytes : List ℕ) (good : (whole_verdict form bytes).num
     -- what is shown is in range: outputs below 1024, the number of a step
     pub shows : word < 1024 → ((ticked form bytes state word).outputs < 1024) × ((ticked form bytes state word).step < steps_of form bytes)
     shows h =
-        let next = ((state-stands (tick_on (nodes_of form bytes) word state)).0 kept).within in
+        let next = ((state_stands (tick_on (nodes_of form bytes) word state)).0 kept).within in
         rw (taken form bytes state word e h) ((sound form bytes good).outputs _ next, (sound form bytes good).step _ next)

@@ -12,16 +12,16 @@ use Rattle.machine.proofs.StandLaws.{Stands}
 use Rattle.tables.specs.Tables.{cell_at, table_verdict}
 use Rattle.steps.specs.Steps.{step_count}
 use Rattle.sheets.specs.Sheets.{sheet_verdict, node_at}
-use Rattle.sheets.proofs.AcceptedSheet.{sheet-accepted}
+use Rattle.sheets.proofs.AcceptedSheet.{sheet_accepted}
 use Rattle.engine.specs.Engine.{Form, sheet_form, table_form, table_state_verdict, sheet_state_verdict, shown_as, ticked, table_ticked, sheet_ticked, shown_at}
 use Rattle.engine.specs.Runs.{ticks_from, run_of, sheet_run, table_run}
 use Rattle.engine.specs.declared.Ticked.{Ticked}
 use Rattle.translator.specs.Translation.{cell_total, table_of, translation, translated}
-use Rattle.translation_laws.proofs.Simulation.{table_state, start_follows, tick_follows, outputs_follow, step_follows, state-follows}
-use Rattle.translator.proofs.CutBytes.{table-cell}
-use Rattle.translation_laws.proofs.TranslatedTable.{translated_passes, table-count}
-use Rattle.translation_laws.proofs.StateKept.{answered_shown, state-stands, start_accepted, taken, kept}
-use Rattle.translation_laws.proofs.TranslationLaws.{translation-accepted, written-table}
+use Rattle.translation_laws.proofs.Simulation.{table_state, start_follows, tick_follows, outputs_follow, step_follows, state_follows}
+use Rattle.translator.proofs.CutBytes.{table_cell}
+use Rattle.translation_laws.proofs.TranslatedTable.{translated_passes, table_count}
+use Rattle.translation_laws.proofs.StateKept.{answered_shown, state_stands, start_accepted, taken, kept}
+use Rattle.translation_laws.proofs.TranslationLaws.{translation_accepted, written_table}
 
 -- what an answer shows: "outputs and step"
 abbrev pub shown : Ticked → ℕ × ℕ
@@ -51,43 +51,43 @@ module _ (sheet : List ℕ) (good : (sheet_verdict sheet).number ≡ 0) (few : c
 
   module _ (state : State) (ok : (sheet_state_verdict sheet state).number ≡ 0) where
     stands : Stands (node_at sheet) (step_count sheet) state
-    stands = (state-stands sheet_form sheet good state).0 ok
+    stands = (state_stands sheet_form sheet good state).0 ok
 
     -- the table's state for an accepted state of the sheet is accepted
-    pub state-accepted : (table_state_verdict (table_of sheet) (table_state sheet state)).number ≡ 0
-    state-accepted =
-        (state-stands table_form (table_of sheet) passes (table_state sheet state)).1
-        (subst (λ (n : ℕ). Stands (cell_at (table_of sheet)) n (table_state sheet state)) (sym (table-count sheet ((sheet-accepted sheet).0 good)))
-        (state-follows sheet (cell_at (table_of sheet)) (table-cell sheet) state stands))
+    pub state_accepted : (table_state_verdict (table_of sheet) (table_state sheet state)).number ≡ 0
+    state_accepted =
+        (state_stands table_form (table_of sheet) passes (table_state sheet state)).1
+        (subst (λ (n : ℕ). Stands (cell_at (table_of sheet)) n (table_state sheet state)) (sym (table_count sheet ((sheet_accepted sheet).0 good)))
+        (state_follows sheet (cell_at (table_of sheet)) (table_cell sheet) state stands))
 
     -- a tick of the table goes where the sheet's goes
-    pub tick-same : (word : ℕ) → tick_on (cell_at (table_of sheet)) word (table_state sheet state) ≡ table_state sheet (tick_on (node_at sheet) word state)
-    tick-same = tick_follows sheet (cell_at (table_of sheet)) (table-cell sheet) state stands
+    pub tick_same : (word : ℕ) → tick_on (cell_at (table_of sheet)) word (table_state sheet state) ≡ table_state sheet (tick_on (node_at sheet) word state)
+    tick_same = tick_follows sheet (cell_at (table_of sheet)) (table_cell sheet) state stands
 
     -- and shows the sheet's outputs
-    pub outputs-same : (node_at sheet state.at).outputs ≡ (cell_at (table_of sheet) (table_state sheet state).at).outputs
-    outputs-same = sym (outputs_follow sheet (cell_at (table_of sheet)) (table-cell sheet) state stands)
+    pub outputs_same : (node_at sheet state.at).outputs ≡ (cell_at (table_of sheet) (table_state sheet state).at).outputs
+    outputs_same = sym (outputs_follow sheet (cell_at (table_of sheet)) (table_cell sheet) state stands)
 
     -- and its step
     pub step_same : (node_at sheet state.at).step ≡ (cell_at (table_of sheet) (table_state sheet state).at).step
-    step_same = sym (step_follows sheet (cell_at (table_of sheet)) (table-cell sheet) state stands)
+    step_same = sym (step_follows sheet (cell_at (table_of sheet)) (table_cell sheet) state stands)
 
   -- ---- the runs
 
   -- from any accepted state of the sheet
-  pub ticks-same : (words : List ℕ) → Every (λ word. word < 1024) words → (state : State) → (sheet_state_verdict sheet state).number ≡ 0
+  pub ticks_same : (words : List ℕ) → Every (λ word. word < 1024) words → (state : State) → (sheet_state_verdict sheet state).number ≡ 0
       → SameRun (ticks_from (sheet_ticked sheet) state words) (ticks_from (table_ticked (table_of sheet)) (table_state sheet state) words)
   unfolding ticks_from
-  ticks-same [] none state ok = record { same = refl; sheet = none; table = none }
-  ticks-same (word ∷ words) (below also rest) state ok =
+  ticks_same [] none state ok = record { same = refl; sheet = none; table = none }
+  ticks_same (word ∷ words) (below also rest) state ok =
       let next : State = tick_on (node_at sheet) word state in
       let next-ok : (sheet_state_verdict sheet next).number ≡ 0 = kept sheet_form sheet good state word ok in
       subst₂ (λ (a b : Ticked). SameRun (a ∷ ticks_from (sheet_ticked sheet) a.state words) (b ∷ ticks_from (table_ticked (table_of sheet)) b.state words))
       (sym (taken sheet_form sheet state word ok below))
       (sym
-      (taken table_form (table_of sheet) (table_state sheet state) word (state-accepted state ok) below
-      ∙ ap (λ (t : State). shown_as t (cell_at (table_of sheet) t.at)) (tick-same state ok word)))
-      (same_more _ _ _ _ refl refl (outputs-same next next-ok) (step_same next next-ok) (ticks-same words rest next next-ok))
+      (taken table_form (table_of sheet) (table_state sheet state) word (state_accepted state ok) below
+      ∙ ap (λ (t : State). shown_as t (cell_at (table_of sheet) t.at)) (tick_same state ok word)))
+      (same_more _ _ _ _ refl refl (outputs_same next next-ok) (step_same next next-ok) (ticks_same words rest next next-ok))
 
   -- from the start
   pub runs_same : (words : List ℕ) → Every (λ word. word < 1024) words → SameRun (sheet_run sheet words) (table_run (table_of sheet) words)
@@ -100,7 +100,7 @@ module _ (sheet : List ℕ) (good : (sheet_verdict sheet).number ≡ 0) (few : c
       (sym (answered_shown _ start_state (cell_at (table_of sheet) 0) (start_accepted table_form (table_of sheet) passes))))
       (subst (λ (t : State). SameRun (shown_as start_state (node_at sheet 0) ∷ ticks_from (sheet_ticked sheet) start_state words) (shown_as t (cell_at (table_of sheet) t.at) ∷ ticks_from (table_ticked (table_of sheet)) t words))
       (start_follows sheet)
-      (same_more _ _ _ _ refl refl (outputs-same start_state start) (step_same start_state start) (ticks-same words below start_state start)))
+      (same_more _ _ _ _ refl refl (outputs_same start_state start) (step_same start_state start) (ticks_same words below start_state start)))
 
 -- a run has an answer for the start and one for each word
 ticks_length : (tick : State → ℕ → Ticked) (words : List ℕ) (state : State) → length (ticks_from tick state words) ≡ length words
@@ -116,6 +116,6 @@ run_length form bytes words = omega (arith, ticks_length (ticked form bytes) wor
 pub third_point : (sheet buffer words : List ℕ) → (translation sheet buffer).verdict.number ≡ 0 → Every (λ word. word < 1024) words
     → SameRun (sheet_run sheet words) (table_run (take (12 * (translation sheet buffer).cells) (translated sheet buffer)) words)
 third_point sheet buffer words e below =
-    let all = (translation-accepted sheet buffer).0 e in
-    subst (λ (table : List ℕ). SameRun (sheet_run sheet words) (table_run table words)) (sym (written-table sheet buffer e))
-    (runs_same sheet ((sheet-accepted sheet).1 all.0) all.1 words below)
+    let all = (translation_accepted sheet buffer).0 e in
+    subst (λ (table : List ℕ). SameRun (sheet_run sheet words) (table_run table words)) (sym (written_table sheet buffer e))
+    (runs_same sheet ((sheet_accepted sheet).1 all.0) all.1 words below)

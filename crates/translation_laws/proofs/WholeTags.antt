@@ -10,9 +10,9 @@ use Rattle.records.specs.Tags.{tag_at}
 use Rattle.records.proofs.Every.{Bytes}
 
 module _ (w : ℕ) (list : List ℕ) (bytes : Bytes list) where
-  pub tag-lt : (k : ℕ) → tag_at w list k < 65536
+  pub tag_lt : (k : ℕ) → tag_at w list k < 65536
   unfolding tag_at word_at
-  tag-lt k = omega (arith, bytes (w * k), bytes (w * k + 1))
+  tag_lt k = omega (arith, bytes (w * k), bytes (w * k + 1))
 
   pub same_tag : (i j : ℕ)
       → (tag_at w list i ≡ tag_at w list j) ↔ ((get_or list (w * i) 0 ≡ get_or list (w * j) 0) × (get_or list (w * i + 1) 0 ≡ get_or list (w * j + 1) 0))

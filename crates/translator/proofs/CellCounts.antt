@@ -52,32 +52,32 @@ cells_fewest timeout h = omega arith
 -- ---- the first cell of a step
 
 module _ (sheet : List ℕ) where
-  pub first-zero : first_cell sheet 0 ≡ 0
+  pub first_zero : first_cell sheet 0 ≡ 0
   unfolding first_cell
-  first-zero = refl
+  first_zero = refl
 
   -- the first cell of the following step stands past all cells of this one
-  pub first-suc : (i : ℕ) → first_cell sheet (suc i) ≡ first_cell sheet i + cells_of sheet i
+  pub first_suc : (i : ℕ) → first_cell sheet (suc i) ≡ first_cell sheet i + cells_of sheet i
   unfolding first_cell
-  first-suc i = refl
+  first_suc i = refl
 
   -- all cells of a step stand before the first cell of any later step
   pub first_past : (i j : ℕ) → i < j → first_cell sheet i + cells_of sheet i ≤ first_cell sheet j
   first_past i zero h = absurd (not-suc-le-zero h)
   first_past i (suc j) h =
       elim (ℕ_discrete i j) [
-        | yes e ↦ subst (λ (k : ℕ). first_cell sheet i + cells_of sheet i ≤ first_cell sheet (suc k)) e (omega (arith, first-suc i))
-        | no e ↦ omega (arith, first-suc j, first_past i j (omega arith))
+        | yes e ↦ subst (λ (k : ℕ). first_cell sheet i + cells_of sheet i ≤ first_cell sheet (suc k)) e (omega (arith, first_suc i))
+        | no e ↦ omega (arith, first_suc j, first_past i j (omega arith))
       ]
 
   -- every cell below the first cell of step n is a cell of a step before n
-  pub cell-owner : (n k : ℕ) → k < first_cell sheet n
+  pub cell_owner : (n k : ℕ) → k < first_cell sheet n
       → (i : ℕ) × (i < n) × ((j : ℕ) × (j < cells_of sheet i) × (k ≡ first_cell sheet i + j))
-  cell-owner zero k h = absurd (not-suc-le-zero (rw first-zero at h))
-  cell-owner (suc n) k h =
+  cell_owner zero k h = absurd (not-suc-le-zero (rw first_zero at h))
+  cell_owner (suc n) k h =
       elim (dec_lt k (first_cell sheet n)) [
-        | yes p ↦ (let found = cell-owner n k p in (found.0, omega (arith, found.1), found.2))
-        | no p ↦ (n, omega arith, (k - first_cell sheet n, omega (arith, first-suc n), omega arith))
+        | yes p ↦ (let found = cell_owner n k p in (found.0, omega (arith, found.1), found.2))
+        | no p ↦ (n, omega arith, (k - first_cell sheet n, omega (arith, first_suc n), omega arith))
       ]
 
 -- ---- the cells of all steps

@@ -15,24 +15,24 @@ use Rattle.translator.specs.Translation.{cells_of, first_cell, last_cut, cut_at}
 
 module _ (sheet : List ℕ) (i j : ℕ) where
   -- "the last has the rest"
-  pub last-timeout : j + 1 ≡ cells_of sheet i → (cut_at sheet i j).timeout ≡ (step_at sheet i).timeout - 4000 * j
+  pub last_timeout : j + 1 ≡ cells_of sheet i → (cut_at sheet i j).timeout ≡ (step_at sheet i).timeout - 4000 * j
   unfolding cut_at last_cut node_at
-  last-timeout e = rw (eq-eqb _ _ e)
+  last_timeout e = rw (eq-eqb _ _ e)
 
   -- and the step's own timeout jump: "Jumps lead to a step's first cell."
-  pub last-to : j + 1 ≡ cells_of sheet i → (cut_at sheet i j).timeoutto ≡ first_cell sheet (node_at sheet i).timeoutto
+  pub last_to : j + 1 ≡ cells_of sheet i → (cut_at sheet i j).timeoutto ≡ first_cell sheet (node_at sheet i).timeoutto
   unfolding cut_at last_cut
-  last-to e = rw (eq-eqb _ _ e)
+  last_to e = rw (eq-eqb _ _ e)
 
   -- "All but the last have 4000"
-  pub inner-timeout : (j + 1 ≡ cells_of sheet i → ⊥) → (cut_at sheet i j).timeout ≡ 4000
+  pub inner_timeout : (j + 1 ≡ cells_of sheet i → ⊥) → (cut_at sheet i j).timeout ≡ 4000
   unfolding cut_at last_cut
-  inner-timeout e = rw (ne_eqb _ _ e)
+  inner_timeout e = rw (ne_eqb _ _ e)
 
   -- "and go to the following cell by timeout"
-  pub inner-to : (j + 1 ≡ cells_of sheet i → ⊥) → (cut_at sheet i j).timeoutto ≡ first_cell sheet i + j + 1
+  pub inner_to : (j + 1 ≡ cells_of sheet i → ⊥) → (cut_at sheet i j).timeoutto ≡ first_cell sheet i + j + 1
   unfolding cut_at last_cut
-  inner-to e = rw (ne_eqb _ _ e)
+  inner_to e = rw (ne_eqb _ _ e)
 
 -- every cell of a step, from its last
 pub cut_from : (sheet : List ℕ) (i j cells following : ℕ) (last cell : Node) → cells ≡ cells_of sheet i → 1 ≤ cells → last ≡ cut_at sheet i (cells - 1)
@@ -57,8 +57,8 @@ cut_from sheet i j cells following last cell all some is next made =
             channel = (is k).channel;
             level = (is k).level;
             sequenceto = (is k).sequenceto;
-            timeout = sym (inner-timeout sheet i j inner) k;
-            timeoutto = (next ∙ sym (inner-to sheet i j inner)) k;
+            timeout = sym (inner_timeout sheet i j inner) k;
+            timeoutto = (next ∙ sym (inner_to sheet i j inner)) k;
             step = (is k).step;
           }
     ]

@@ -7,10 +7,10 @@ use native.Mathlib.Omega.{arith}
 use Rattle.machine.proofs.StandLaws.{Leads}
 use Rattle.steps.specs.Steps.{step_count, step_at}
 use Rattle.sheets.specs.Sheets.{node_at}
-use Rattle.sheets.proofs.AcceptedSheet.{AcceptedSheet, node-leads}
+use Rattle.sheets.proofs.AcceptedSheet.{AcceptedSheet, node_leads}
 use Rattle.translator.specs.Translation.{cells_for, cells_of, first_cell, cell_total, cut_at}
 use Rattle.translator.proofs.CellCounts.{cells_least, first_past}
-use Rattle.translator.proofs.CutLaws.{last-to, inner-to}
+use Rattle.translator.proofs.CutLaws.{last_to, inner_to}
 
 -- the last cell's rest: the cells before it take no more than the timeout
 pub rest_left : (timeout j : ℕ) → j + 1 ≡ cells_for timeout → 4000 * j ≤ timeout
@@ -19,25 +19,25 @@ rest_left timeout j h = omega arith
 
 module _ (sheet : List ℕ) where
   -- a step's cells stand below the table's end
-  pub step-within : (i : ℕ) → i < step_count sheet → first_cell sheet i + cells_of sheet i ≤ cell_total sheet
+  pub step_within : (i : ℕ) → i < step_count sheet → first_cell sheet i + cells_of sheet i ≤ cell_total sheet
   unfolding cell_total
-  step-within i h = first_past sheet i (step_count sheet) h
+  step_within i h = first_past sheet i (step_count sheet) h
 
   -- and its first is one of the table's
   pub first_within : (i : ℕ) → i < step_count sheet → first_cell sheet i < cell_total sheet
-  first_within i h = omega (arith, step-within i h, cells_least (step_at sheet i).timeout)
+  first_within i h = omega (arith, step_within i h, cells_least (step_at sheet i).timeout)
 
   -- every exit of a cell leads to a cell of the table
-  pub cut-leads : AcceptedSheet sheet → (i j : ℕ) → i < step_count sheet → j < cells_of sheet i → Leads (cell_total sheet) (cut_at sheet i j)
+  pub cut_leads : AcceptedSheet sheet → (i j : ℕ) → i < step_count sheet → j < cells_of sheet i → Leads (cell_total sheet) (cut_at sheet i j)
   unfolding cut_at
-  cut-leads a i j h k =
-      let leads = node-leads sheet a i h in
+  cut_leads a i j h k =
+      let leads = node_leads sheet a i h in
       record {
         fault = first_within _ leads.fault;
         sequence = first_within _ leads.sequence;
         timeout =
             elim (ℕ_discrete (j + 1) (cells_of sheet i)) [
-              | yes e ↦ omega (arith, last-to sheet i j e, first_within (node_at sheet i).timeoutto leads.timeout)
-              | no e ↦ omega (arith, inner-to sheet i j e, step-within i h)
+              | yes e ↦ omega (arith, last_to sheet i j e, first_within (node_at sheet i).timeoutto leads.timeout)
+              | no e ↦ omega (arith, inner_to sheet i j e, step_within i h)
             ];
       }

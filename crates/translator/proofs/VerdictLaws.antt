@@ -17,13 +17,13 @@ use Rattle.translator.specs.Translation.{cell_total, table_of, translation_verdi
 
 module _ (sheet : List ℕ) (room : ℕ) where
   -- the two tests that follow the sheet's
-  abbrev roomTests : List Verdict
-  roomTests = refused_unless (leb (cell_total sheet) 63) 7 0 ∷ refused_unless (leb (12 * cell_total sheet) room) 10 0 ∷ []
+  abbrev room_tests : List Verdict
+  room_tests = refused_unless (leb (cell_total sheet) 63) 7 0 ∷ refused_unless (leb (12 * cell_total sheet) room) 10 0 ∷ []
 
   -- the sheet's verdict stands for the sheet's tests
-  pub in_order : translation_verdict sheet room ≡ first_refusal (sheet_verdict sheet ∷ roomTests)
+  pub in_order : translation_verdict sheet room ≡ first_refusal (sheet_verdict sheet ∷ room_tests)
   unfolding translation_verdict sheet_verdict
-  in_order = first_append (sheet_tests sheet) roomTests ∙ sym (first_cons _ _)
+  in_order = first_append (sheet_tests sheet) room_tests ∙ sym (first_cons _ _)
 
   -- every test passes
   pub record Accepted : Type 0 where
@@ -32,8 +32,8 @@ module _ (sheet : List ℕ) (room : ℕ) where
     pub roomy : 12 * cell_total sheet ≤ room
 
   -- accepted exactly there
-  pub verdict-accepted : ((translation_verdict sheet room).number ≡ 0) ↔ Accepted
-  verdict-accepted = (
+  pub verdict_accepted : ((translation_verdict sheet room).number ≡ 0) ↔ Accepted
+  verdict_accepted = (
     λ e.
         elim (all_pass _ (ap number_of (sym in_order) ∙ e)) [
           | sound also few also roomy also none ↦
@@ -54,22 +54,22 @@ module _ (sheet : List ℕ) (room : ℕ) where
 module _ (sheet buffer : List ℕ) where
   module _ (e : (translation sheet buffer).verdict.number ≡ 0) where
     -- accepted: the cells are counted
-    pub accepted-cells : (translation sheet buffer).cells ≡ cell_total sheet
+    pub accepted_cells : (translation sheet buffer).cells ≡ cell_total sheet
     unfolding translation
-    accepted-cells = rw (eq-eqb _ 0 e)
+    accepted_cells = rw (eq-eqb _ 0 e)
 
     -- and the table stands before the buffer's own bytes
-    pub accepted-bytes : translated sheet buffer ≡ table_of sheet ++ drop (12 * cell_total sheet) buffer
+    pub accepted_bytes : translated sheet buffer ≡ table_of sheet ++ drop (12 * cell_total sheet) buffer
     unfolding translation translated
-    accepted-bytes = rw (eq-eqb (translation_verdict sheet (length buffer)).number 0 e)
+    accepted_bytes = rw (eq-eqb (translation_verdict sheet (length buffer)).number 0 e)
 
   module _ (r : (translation sheet buffer).verdict.number ≡ 0 → ⊥) where
     -- "A refused call ... counts zero cells"
-    pub refused-cells : (translation sheet buffer).cells ≡ 0
+    pub refused_cells : (translation sheet buffer).cells ≡ 0
     unfolding translation
-    refused-cells = rw (ne_eqb _ 0 r)
+    refused_cells = rw (ne_eqb _ 0 r)
 
     -- "A refused call writes to no buffer"
-    pub refused-bytes : translated sheet buffer ≡ buffer
+    pub refused_bytes : translated sheet buffer ≡ buffer
     unfolding translation translated
-    refused-bytes = rw (ne_eqb (translation_verdict sheet (length buffer)).number 0 r)
+    refused_bytes = rw (ne_eqb (translation_verdict sheet (length buffer)).number 0 r)

@@ -9,16 +9,16 @@ use lib.ListN.{length, take, drop, length-append, length-drop, take-append-drop}
 use lib.Seq.{length-take-le, drop-drop}
 use borrow.Rule.Slice.PartMut.{put_mid, same_len_mid}
 use Rattle.records.specs.Lists.{pieces}
-use Rattle.records.proofs.ListLaws.{lent-part}
-use Rattle.records.proofs.PieceLaws.{pieces_more, pieces-length}
+use Rattle.records.proofs.ListLaws.{lent_part}
+use Rattle.records.proofs.PieceLaws.{pieces_more, pieces_length}
 use Rattle.machine.specs.declared.Node.{Node}
 use Rattle.tables.specs.Tables.{cell_bytes, cell_written}
 use Rattle.tables.proofs.CellBytes.{cell_length}
-use Rattle.tables.proofs.TableLaws.{part-taken}
+use Rattle.tables.proofs.TableLaws.{part_taken}
 use Rattle.steps.specs.Steps.{step_count}
 use Rattle.translator.specs.Translation.{cells_of, first_cell, cell_total, cut_at, step_bytes, table_of}
-use Rattle.translator.proofs.CellCounts.{first-zero, first-suc}
-use Rattle.translator.proofs.CutBytes.{steps-length}
+use Rattle.translator.proofs.CellCounts.{first_zero, first_suc}
+use Rattle.translator.proofs.CutBytes.{steps_length}
 
 module _ (sheet table₀ : List ℕ) where
   -- ---- the cells of a step, from cell `first` on
@@ -33,9 +33,9 @@ module _ (sheet table₀ : List ℕ) where
       pub bytes : table ≡ take (12 * first) table₀ ++ cells j ++ drop (12 * (first + j)) table₀
       pub size : length table ≡ length table₀
 
-    pub cells-none : CellsWritten 0 table₀
+    pub cells_none : CellsWritten 0 table₀
     unfolding pieces
-    cells-none =
+    cells_none =
         record {
           bytes =
               sym
@@ -49,34 +49,34 @@ module _ (sheet table₀ : List ℕ) where
       at = 12 * (first + j)
 
       -- the part that the loop lends is twelve bytes long, and comes back as the cell
-      cell-there : (cell : Node) → cell ≡ cut_at sheet i j → ys ≡ cell_written cell (take (at + 12 - at) (drop at table)) → ys ≡ cell_bytes (cut_at sheet i j)
-      cell-there cell c e =
+      cell_there : (cell : Node) → cell ≡ cut_at sheet i j → ys ≡ cell_written cell (take (at + 12 - at) (drop at table)) → ys ≡ cell_bytes (cut_at sheet i j)
+      cell_there cell c e =
           let twelve : 12 * (first + j) + 12 - 12 * (first + j) ≡ 12 = omega arith in
           let left : 12 ≤ length (drop (12 * (first + j)) table) = omega (arith, length-drop (12 * (first + j)) table, so.size) in
           e
           ∙ ap₂ (λ (d : Node) (n : ℕ). cell_written d (take n (drop at table))) c twelve
-          ∙ sym (part-taken (cut_at sheet i j) (take 12 (drop at table)) (length-take-le 12 (drop at table) left)).1
+          ∙ sym (part_taken (cut_at sheet i j) (take 12 (drop at table)) (length-take-le 12 (drop at table) left)).1
 
-      done-length : length (take (12 * first) table₀ ++ cells j) ≡ at
-      done-length =
+      done_length : length (take (12 * first) table₀ ++ cells j) ≡ at
+      done_length =
           length-append (take (12 * first) table₀) (cells j)
           ∙ omega (
             arith,
             length-take-le (12 * first) table₀ (omega arith),
-            pieces-length (λ k. cell_bytes (cut_at sheet i k)) 12 (λ k. cell_length (cut_at sheet i k)) 0 j,
+            pieces_length (λ k. cell_bytes (cut_at sheet i k)) 12 (λ k. cell_length (cut_at sheet i k)) 0 j,
           )
 
-      pub cells-more : (cell : Node) → cell ≡ cut_at sheet i j → ys ≡ cell_written cell (take (at + 12 - at) (drop at table))
+      pub cells_more : (cell : Node) → cell ≡ cut_at sheet i j → ys ≡ cell_written cell (take (at + 12 - at) (drop at table))
           → length ys ≡ length (take (at + 12 - at) (drop at table)) → CellsWritten (j + 1) (put_mid at (at + 12 - at) table ys)
-      cells-more cell c e l =
+      cells_more cell c e l =
           let done = take (12 * first) table₀ ++ cells j in
           let twelve : 12 * (first + j) + 12 - 12 * (first + j) ≡ 12 = omega arith in
           let next : 12 * (first + j) + 12 ≡ 12 * (first + (j + 1)) = omega arith in
           record {
             bytes =
                 ap (λ (n : ℕ). put_mid at n table ys) twelve
-                ∙ ap₂ (λ (t y : List ℕ). put_mid at 12 t y) so.bytes (cell-there cell c e)
-                ∙ lent-part done (cell_bytes (cut_at sheet i j)) table₀ at 12 done-length
+                ∙ ap₂ (λ (t y : List ℕ). put_mid at 12 t y) so.bytes (cell_there cell c e)
+                ∙ lent_part done (cell_bytes (cut_at sheet i j)) table₀ at 12 done_length
                 ∙ ap₂ (λ (l : List ℕ) (n : ℕ). l ++ drop n table₀)
                 (append_assoc (take (12 * first) table₀) (cells j) (cell_bytes (cut_at sheet i j))
                 ∙ ap (λ (l : List ℕ). take (12 * first) table₀ ++ l)
@@ -86,10 +86,10 @@ module _ (sheet table₀ : List ℕ) where
           }
 
     -- all of the step's cells
-    pub cells-all : (j n : ℕ) (table : List ℕ) → CellsWritten j table → j ≡ n → n ≡ cells_of sheet i
+    pub cells_all : (j n : ℕ) (table : List ℕ) → CellsWritten j table → j ≡ n → n ≡ cells_of sheet i
         → table ≡ take (12 * first) table₀ ++ (step_bytes sheet i ++ drop (12 * (first + n)) table₀)
     unfolding step_bytes
-    cells-all j n table so e c =
+    cells_all j n table so e c =
         so.bytes
         ∙ append_assoc (take (12 * first) table₀) (cells j) (drop (12 * (first + j)) table₀)
         ∙ ap₂ (λ (m k : ℕ). take (12 * first) table₀ ++ (cells m ++ drop (12 * (first + k)) table₀)) (e ∙ c) e
@@ -102,26 +102,26 @@ module _ (sheet table₀ : List ℕ) where
     pub bytes : table ≡ pieces (step_bytes sheet) 0 i ++ drop (12 * first) table₀
     pub size : length table ≡ length table₀
 
-  pub steps-none : StepsWritten 0 0 table₀
+  pub steps_none : StepsWritten 0 0 table₀
   unfolding pieces
-  steps-none = record { counted = sym (first-zero sheet); bytes = refl; size = refl }
+  steps_none = record { counted = sym (first_zero sheet); bytes = refl; size = refl }
 
   module _ (i first : ℕ) (table next : List ℕ) (so : StepsWritten i first table) where
-    pub steps-more : (cells : ℕ) → cells ≡ cells_of sheet i
+    pub steps_more : (cells : ℕ) → cells ≡ cells_of sheet i
         → next ≡ take (12 * first) table ++ (step_bytes sheet i ++ drop (12 * (first + cells)) table) → length next ≡ length table
         → StepsWritten (i + 1) (first + cells) next
-    steps-more cells c e l =
+    steps_more cells c e l =
         let done = pieces (step_bytes sheet) 0 i in
         let split : 12 * (first + cells) ≡ 12 * first + 12 * cells = omega arith in
         record {
-          counted = ap₂ ◌+◌ so.counted c ∙ sym (ap (first_cell sheet) (add-one i) ∙ first-suc sheet i);
+          counted = ap₂ ◌+◌ so.counted c ∙ sym (ap (first_cell sheet) (add-one i) ∙ first_suc sheet i);
           bytes =
               e
               ∙ ap (λ (l : List ℕ). take (12 * first) table ++ (step_bytes sheet i ++ l))
               (ap (λ (n : ℕ). drop n table) split ∙ sym (drop-drop (12 * cells) (12 * first) table))
               ∙ ap (λ (t : List ℕ). take (12 * first) t ++ (step_bytes sheet i ++ drop (12 * cells) (drop (12 * first) t))) so.bytes
-              ∙ lent-part done (step_bytes sheet i) table₀ (12 * first) (12 * cells)
-              (steps-length sheet i ∙ ap (λ (n : ℕ). 12 * n) (sym so.counted))
+              ∙ lent_part done (step_bytes sheet i) table₀ (12 * first) (12 * cells)
+              (steps_length sheet i ∙ ap (λ (n : ℕ). 12 * n) (sym so.counted))
               ∙ ap₂ (λ (l : List ℕ) (n : ℕ). l ++ drop n table₀)
               (ap (λ (k : ℕ). done ++ step_bytes sheet k) (sym (zero-add i)) ∙ sym (pieces_more (step_bytes sheet) 0 i))
               (sym split);

@@ -28,15 +28,15 @@ module _ (table : List ℕ) (value i : ℕ) where
       → lookup_from i (drop i table) value ≡ cond (eqb (get_or table i 0) value) (Is i) (lookup_from (suc i) (drop (suc i) table) value)
   next h = ap (λ (l : List ℕ). lookup_from i l value) (drop-cons table i 0 h)
 
-  pub lookup-hit : i < length table → get_or table i 0 ≡ value → lookup_from i (drop i table) value ≡ Is i
-  lookup-hit h e = next h ∙ rw (eq-eqb _ _ e)
+  pub lookup_hit : i < length table → get_or table i 0 ≡ value → lookup_from i (drop i table) value ≡ Is i
+  lookup_hit h e = next h ∙ rw (eq-eqb _ _ e)
 
-  pub lookup-pass : i < length table → (get_or table i 0 ≡ value → ⊥)
+  pub lookup_pass : i < length table → (get_or table i 0 ≡ value → ⊥)
       → lookup_from i (drop i table) value ≡ lookup_from (i + 1) (drop (i + 1) table) value
-  lookup-pass h e = next h ∙ rw (ne_eqb _ _ e, add-one)
+  lookup_pass h e = next h ∙ rw (ne_eqb _ _ e, add-one)
 
-  pub lookup-end : length table ≤ i → lookup_from i (drop i table) value ≡ Lacking
-  lookup-end h = ap (λ (l : List ℕ). lookup_from i l value) (drop_of_length-le table h)
+  pub lookup_end : length table ≤ i → lookup_from i (drop i table) value ≡ Lacking
+  lookup_end h = ap (λ (l : List ℕ). lookup_from i l value) (drop_of_length-le table h)
 
 -- ---- a code has room in its field
 within : (b : Bool) (i c n : ℕ) (rest : Code) → cond b (Is i) rest ≡ Is c → (rest ≡ Is c → c < suc i + n) → c < i + suc n

@@ -13,8 +13,8 @@ use Rattle.records.specs.Numbers.{wrong_length, out_of_range}
 use Rattle.records.specs.Verdicts.{accepted, refused, refused_unless, or_else, first_refusal}
 use Rattle.records.specs.declared.Verdict.{Verdict}
 use Rattle.records.proofs.BitLaws.{joined_sum}
-use Rattle.records.proofs.ListLaws.{get_d_default, each-ext, each-record}
-use Rattle.records.proofs.VerdictLaws.{or_else_pass, or_else_hit, first_cons, first_one, first_accepted, tests-accepted, accepted-tests, lowest-shows, first_records}
+use Rattle.records.proofs.ListLaws.{get_d_default, each_ext, each_record}
+use Rattle.records.proofs.VerdictLaws.{or_else_pass, or_else_hit, first_cons, first_one, first_accepted, tests_accepted, accepted_tests, lowest_shows, first_records}
 use Rattle.image.specs.Codes.{code_number, code_value, lookup, times, pulses, fault_code, input_code, source_code, pull_code}
 use Rattle.image.specs.Reading.{zero_group}
 use Rattle.writing.specs.Writing.{beside, flag, hysteresis_byte, timing_byte, pin_logic_byte, logic_byte, output_byte, group_bytes, setting_byte, code_verdict, settings_verdict, write_verdict, image_of, written, group_verdict, encoded}
@@ -55,10 +55,10 @@ module _ (logic : Logic) where
   abbrev pinned : Code → Code → Code
   pinned pulse delay = beside (Is (flag logic.invert)) 6 (beside (Is (flag logic.edge)) 5 (beside pulse 3 delay))
 
-  pub pin-logic-is : (pulse delay : ℕ) → lookup pulses logic.pulse ≡ Is pulse → lookup times logic.delay ≡ Is delay
+  pub pin_logic_is : (pulse delay : ℕ) → lookup pulses logic.pulse ≡ Is pulse → lookup times logic.delay ≡ Is delay
       → pin_logic_byte logic ≡ Is (joined (flag logic.invert) 6 (joined (flag logic.edge) 5 (joined pulse 3 delay)))
   unfolding pin_logic_byte
-  pin-logic-is pulse delay p d =
+  pin_logic_is pulse delay p d =
       let invert = flag logic.invert in
       let edge = flag logic.edge in
       let pulse-lt : pulse < 4 = lookup_lt pulses logic.pulse pulse p in
@@ -72,13 +72,13 @@ module _ (logic : Logic) where
       ∙ ap (beside (Is invert) 6) (beside_joined edge 5 (joined pulse 3 delay) (omega arith) (omega arith))
       ∙ beside_joined invert 6 (joined edge 5 (joined pulse 3 delay)) (omega arith) (omega arith)
 
-  pub pulse-lacks : lookup pulses logic.pulse ≡ Lacking → pin_logic_byte logic ≡ Lacking
+  pub pulse_lacks : lookup pulses logic.pulse ≡ Lacking → pin_logic_byte logic ≡ Lacking
   unfolding pin_logic_byte
-  pulse-lacks p = ap (λ (code : Code). pinned code (lookup times logic.delay)) p
+  pulse_lacks p = ap (λ (code : Code). pinned code (lookup times logic.delay)) p
 
-  pub delay-lacks : (pulse : ℕ) → lookup pulses logic.pulse ≡ Is pulse → lookup times logic.delay ≡ Lacking → pin_logic_byte logic ≡ Lacking
+  pub delay_lacks : (pulse : ℕ) → lookup pulses logic.pulse ≡ Is pulse → lookup times logic.delay ≡ Lacking → pin_logic_byte logic ≡ Lacking
   unfolding pin_logic_byte
-  delay-lacks pulse p d = ap₂ pinned p d
+  delay_lacks pulse p d = ap₂ pinned p d
 
 -- ---- the tests of one group
 -- what the encoder answers for a setting that the byte at an address cannot mean
@@ -97,76 +97,76 @@ module _ (k : ℕ) (group : Group) where
   one_more : (j : ℕ) → Coded k group j → code_number (code_at k group j) ≡ 0 → Coded k group (j + 1)
   one_more j = below_more (λ i. code_number (code_at k group i) ≡ 0) j
 
-  verdict-at : (j : ℕ) → j < 8 → Coded k group j → code_at k group j ≡ Lacking → group_verdict k group ≡ code_verdict Lacking (8 * k + j)
+  verdict_at : (j : ℕ) → j < 8 → Coded k group j → code_at k group j ≡ Lacking → group_verdict k group ≡ code_verdict Lacking (8 * k + j)
   unfolding group_verdict
-  verdict-at j h before lacks =
-      lowest-shows (λ i. code_verdict (code_at k group i) (8 * k + i)) 8 j (record {
+  verdict_at j h before lacks =
+      lowest_shows (λ i. code_verdict (code_at k group i) (8 * k + i)) 8 j (record {
         inside = h;
         refuses = λ z. let never : 4 ≡ 0 = sym (ap (λ (code : Code). (code_verdict code (8 * k + j)).number) lacks) ∙ z in omega arith;
         before = λ i p. code_passes (code_at k group i) (8 * k + i) (before i p);
       })
       ∙ ap (λ (code : Code). code_verdict code (8 * k + j)) lacks
 
-  refused-at : (j : ℕ) → j < 8 → Coded k group j → code_at k group j ≡ Lacking → refused_at (8 * k + j) ≡ encoded k group
+  refused_at_lem : (j : ℕ) → j < 8 → Coded k group j → code_at k group j ≡ Lacking → refused_at (8 * k + j) ≡ encoded k group
   unfolding encoded
-  refused-at j h before lacks = rw (verdict-at j h before lacks)
+  refused_at_lem j h before lacks = rw (verdict_at j h before lacks)
 
   all_coded : Coded k group 8 → ◌≡◌ {A = Encoded} (record { verdict = accepted; bytes = each (λ j. code_value (code_at k group j)) 0 8 }) (encoded k group)
   unfolding encoded group_verdict
   all_coded before =
-      rw (tests-accepted (λ i. code_verdict (code_at k group i) (8 * k + i)) 8 (λ i p. code_passes (code_at k group i) (8 * k + i) (before i p)))
+      rw (tests_accepted (λ i. code_verdict (code_at k group i) (8 * k + i)) 8 (λ i p. code_passes (code_at k group i) (8 * k + i) (before i p)))
 
   -- byte by byte, as the encoder tests them
-  level-coded : Coded k group 1
+  level_coded : Coded k group 1
   unfolding group_bytes
-  level-coded = one_more 0 (below_none _) refl
+  level_coded = one_more 0 (below_none _) refl
 
-  pub over-refused : 31 < group.over.hysteresis → refused_at (8 * k + 1) ≡ encoded k group
+  pub over_refused : 31 < group.over.hysteresis → refused_at (8 * k + 1) ≡ encoded k group
   unfolding group_bytes
-  over-refused h = refused-at 1 (omega arith) level-coded (hysteresis_lacks _ h)
+  over_refused h = refused_at_lem 1 (omega arith) level_coded (hysteresis_lacks _ h)
 
   module _ (over : group.over.hysteresis ≤ 31) where
-    over-coded : Coded k group 3
+    over_coded : Coded k group 3
     unfolding group_bytes
-    over-coded = one_more 2 (one_more 1 level-coded (ap code_number (hysteresis_is _ over))) refl
+    over_coded = one_more 2 (one_more 1 level_coded (ap code_number (hysteresis_is _ over))) refl
 
-    pub under-refused : 31 < group.under.hysteresis → refused_at (8 * k + 3) ≡ encoded k group
+    pub under_refused : 31 < group.under.hysteresis → refused_at (8 * k + 3) ≡ encoded k group
     unfolding group_bytes
-    under-refused h = refused-at 3 (omega arith) over-coded (hysteresis_lacks _ h)
+    under_refused h = refused_at_lem 3 (omega arith) over_coded (hysteresis_lacks _ h)
 
     module _ (under : group.under.hysteresis ≤ 31) where
-      under-coded : Coded k group 4
+      under_coded : Coded k group 4
       unfolding group_bytes
-      under-coded = one_more 3 over-coded (ap code_number (hysteresis_is _ under))
+      under_coded = one_more 3 over_coded (ap code_number (hysteresis_is _ under))
 
-      pub delay-refused : lookup times group.delay ≡ Lacking → refused_at (8 * k + 4) ≡ encoded k group
+      pub delay_refused : lookup times group.delay ≡ Lacking → refused_at (8 * k + 4) ≡ encoded k group
       unfolding group_bytes
-      delay-refused h = refused-at 4 (omega arith) under-coded (timing_lacks group h)
+      delay_refused h = refused_at_lem 4 (omega arith) under_coded (timing_lacks group h)
 
       module _ (delay : ℕ) (timed : lookup times group.delay ≡ Is delay) where
-        delay-coded : Coded k group 5
+        delay_coded : Coded k group 5
         unfolding group_bytes
-        delay-coded = one_more 4 under-coded (ap code_number (timing_is group delay timed))
+        delay_coded = one_more 4 under_coded (ap code_number (timing_is group delay timed))
 
-        pub input-refused : input_code k group.input ≡ Lacking → refused_at (8 * k + 5) ≡ encoded k group
+        pub input_refused : input_code k group.input ≡ Lacking → refused_at (8 * k + 5) ≡ encoded k group
         unfolding group_bytes
-        input-refused h = refused-at 5 (omega arith) delay-coded h
+        input_refused h = refused_at_lem 5 (omega arith) delay_coded h
 
         module _ (five : ℕ) (named : input_code k group.input ≡ Is five) where
-          input-coded : Coded k group 6
+          input_coded : Coded k group 6
           unfolding group_bytes
-          input-coded = one_more 5 delay-coded (ap code_number named)
+          input_coded = one_more 5 delay_coded (ap code_number named)
 
-          pub logic-refused : logic_byte k group.logic ≡ Lacking → refused_at (8 * k + 6) ≡ encoded k group
+          pub logic_refused : logic_byte k group.logic ≡ Lacking → refused_at (8 * k + 6) ≡ encoded k group
           unfolding group_bytes
-          logic-refused h = refused-at 6 (omega arith) input-coded h
+          logic_refused h = refused_at_lem 6 (omega arith) input_coded h
 
           module _ (six : ℕ) (wired : logic_byte k group.logic ≡ Is six) (seven : ℕ) (driven : output_byte group.output ≡ Is seven) where
             all_codes : Coded k group 8
             unfolding group_bytes
-            all_codes = one_more 7 (one_more 6 input-coded (ap code_number wired)) (ap code_number driven)
+            all_codes = one_more 7 (one_more 6 input_coded (ap code_number wired)) (ap code_number driven)
 
-            pub encoded-is : ◌≡◌ {A = Encoded}
+            pub encoded_is : ◌≡◌ {A = Encoded}
                 (record {
                   verdict = accepted;
                   bytes =
@@ -182,7 +182,7 @@ module _ (k : ℕ) (group : Group) where
                 })
                 (encoded k group)
             unfolding group_bytes each
-            encoded-is =
+            encoded_is =
                 rw (hysteresis_is _ over, hysteresis_is _ under, timing_is group delay timed, named, wired, driven)
                 at (all_coded all_codes)
 
@@ -212,23 +212,23 @@ abbrev pub byte_at : Settings → ℕ → ℕ
 byte_at settings address = code_value (setting_byte settings address)
 
 module _ (settings : Settings) where
-  group-addresses : (k : ℕ) → first_refusal (each (λ a. code_verdict (setting_byte settings a) a) (8 * k) 8) ≡ settings_test settings.groups k
+  group_addresses : (k : ℕ) → first_refusal (each (λ a. code_verdict (setting_byte settings a) a) (8 * k) 8) ≡ settings_test settings.groups k
   unfolding group_verdict setting_byte
-  group-addresses k = ap first_refusal (each-record (λ q r a. code_verdict (code_at q (group_in settings.groups q) r) a) 8 k)
+  group_addresses k = ap first_refusal (each_record (λ q r a. code_verdict (code_at q (group_in settings.groups q) r) a) 8 k)
 
-  pub settings-groups : settings_verdict settings ≡ first_refusal (each (settings_test settings.groups) 0 10)
+  pub settings_groups : settings_verdict settings ≡ first_refusal (each (settings_test settings.groups) 0 10)
   unfolding settings_verdict
-  settings-groups = first_records _ 8 0 10 ∙ ap first_refusal (each-ext _ _ 0 10 (λ k h. group-addresses (0 + k)))
+  settings_groups = first_records _ 8 0 10 ∙ ap first_refusal (each_ext _ _ 0 10 (λ k h. group_addresses (0 + k)))
 
   -- where the settings are accepted, the encoder's bytes are those of the group's addresses
-  pub group-bytes : (settings_verdict settings).number ≡ 0 → (k : ℕ) (d : Group) (answer : Encoded) → answer ≡ encoded k (get_or settings.groups k d)
+  pub group_bytes_lem : (settings_verdict settings).number ≡ 0 → (k : ℕ) (d : Group) (answer : Encoded) → answer ≡ encoded k (get_or settings.groups k d)
       → length settings.groups ≡ 10 → k < 10 → answer.bytes ≡ each (byte_at settings) (8 * k) 8
   unfolding setting_byte
-  group-bytes accepts k d answer is ten h =
+  group_bytes_lem accepts k d answer is ten h =
       ap (λ (e : Encoded). e.bytes) (is ∙ ap (encoded k) (get_d_default settings.groups k d (zero_group k) (omega arith)))
       ∙ encoded_bytes k (group_in settings.groups k)
-      (accepted-tests (settings_test settings.groups) 10 (sym (ap (λ (v : Verdict). v.number) settings-groups) ∙ accepts) k h)
-      ∙ sym (each-record (λ q r a. code_value (code_at q (group_in settings.groups q) r)) 8 k)
+      (accepted_tests (settings_test settings.groups) 10 (sym (ap (λ (v : Verdict). v.number) settings_groups) ∙ accepts) k h)
+      ∙ sym (each_record (λ q r a. code_value (code_at q (group_in settings.groups q) r)) 8 k)
 
 -- ---- the writer's answer and the buffer
 module _ (settings : Settings) (buffer : List ℕ) where
@@ -236,15 +236,15 @@ module _ (settings : Settings) (buffer : List ℕ) where
   unfolding settings_verdict
   settings_accepted h = first_accepted _ h
 
-  write-parts : write_verdict settings buffer ≡ or_else (refused_unless (eqb (length buffer) 80) wrong_length 0) (settings_verdict settings)
+  write_parts : write_verdict settings buffer ≡ or_else (refused_unless (eqb (length buffer) 80) wrong_length 0) (settings_verdict settings)
   unfolding write_verdict
-  write-parts = first_cons _ _ ∙ ap (or_else _) (first_one (settings_verdict settings) settings_accepted)
+  write_parts = first_cons _ _ ∙ ap (or_else _) (first_one (settings_verdict settings) settings_accepted)
 
-  pub write-whole : length buffer ≡ 80 → settings_verdict settings ≡ write_verdict settings buffer
-  write-whole h = sym (write-parts ∙ or_else_pass _ _ (rw (eq-eqb _ _ h)))
+  pub write_whole : length buffer ≡ 80 → settings_verdict settings ≡ write_verdict settings buffer
+  write_whole h = sym (write_parts ∙ or_else_pass _ _ (rw (eq-eqb _ _ h)))
 
-  pub write-not-whole : (length buffer ≡ 80 → ⊥) → refused wrong_length 0 ≡ write_verdict settings buffer
-  write-not-whole h = sym (write-parts ∙ rw (ne_eqb _ _ h) (or_else_hit _ _ (λ e. omega arith)))
+  pub write_not_whole : (length buffer ≡ 80 → ⊥) → refused wrong_length 0 ≡ write_verdict settings buffer
+  write_not_whole h = sym (write_parts ∙ rw (ne_eqb _ _ h) (or_else_hit _ _ (λ e. omega arith)))
 
   -- a refusal leaves the buffer, and an acceptance fills it
   pub written_refused : (v : Verdict) → v ≡ write_verdict settings buffer → (v.number ≡ 0 → ⊥) → buffer ≡ written settings buffer

@@ -11,7 +11,7 @@ use Rattle.image.specs.declared.Settings.{Settings}
 use Rattle.writing.specs.Writing.{write_verdict, written}
 use Rattle.packing.specs.Packed.{packed_verdict}
 use Rattle.capi.specs.Calls.{normal_verdict, normal_written}
-use Rattle.capi.proofs.CallLaws.{normal-refused, normal-kept, normal-taken}
+use Rattle.capi.proofs.CallLaws.{normal_refused, normal_kept, normal_taken}
 use Rattle.capi.proofs.wrackbasket_normal.Statement.{statement}
 use Rattle.capi.proofs.wrackbasket_normal.Tie as tie
 
@@ -22,9 +22,9 @@ returns c =
     let start = read.before.before.before.args in
     let number = ap (λ (r : Reading). r.verdict.number) read.read.ensures in
     let bad : ¬ ((image_verdict start.image.now).number ≡ 0) = λ zero. c.before.if1.true (number ∙ zero) in
-    let refused = normal-refused start.image.now start.buffer.now bad in (
+    let refused = normal_refused start.image.now start.buffer.now bad in (
       c.packed.ensures ∙ ap (λ (r : Reading). packed_verdict r.verdict) read.read.ensures ∙ ap packed_verdict (sym refused),
-      sym (normal-kept start.image.now start.buffer.now (λ zero. bad (sym (ap (λ (v : Verdict). v.number) refused) ∙ zero))),
+      sym (normal_kept start.image.now start.buffer.now (λ zero. bad (sym (ap (λ (v : Verdict). v.number) refused) ∙ zero))),
     )
 
 returns-2 : tie.Need-returns-2
@@ -36,7 +36,7 @@ returns-2 c =
     let start = read.before.before.before.args in
     let image = start.image.now in
     let good : (image_verdict image).number ≡ 0 = sym (ap (λ (r : Reading). r.verdict.number) read.read.ensures) ∙ else.if1.false in
-    let taken = normal-taken image start.buffer.now (λ i. (read.before.before.shared-slice-known.given i).fits) good in
+    let taken = normal_taken image start.buffer.now (λ i. (read.before.before.shared-slice-known.given i).fits) good in
     let wrote = write.write.ensures in (
       c.packed2.ensures ∙ ap packed_verdict (wrote.0 ∙ ap (λ (r : Reading). write_verdict r.settings start.buffer.now) read.read.ensures ∙ sym taken.0),
       wrote.1 ∙ ap (λ (r : Reading). written r.settings start.buffer.now) read.read.ensures ∙ sym taken.1,

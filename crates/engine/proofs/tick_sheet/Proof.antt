@@ -1,7 +1,7 @@
 -- `engine::tick_sheet` meets its contract: the tests of the state, the tick, then what shows. Assumes nothing.
 use borrow.Author.Rules.{rules}
 use Rattle.engine.specs.Engine.{sheet_form}
-use Rattle.engine.proofs.AnswerLaws.{ticked-by}
+use Rattle.engine.proofs.AnswerLaws.{ticked_by}
 use Rattle.engine.proofs.tick_sheet.Statement.{statement}
 use Rattle.engine.proofs.tick_sheet.Tie as tie
 
@@ -9,7 +9,7 @@ returns : tie.Need-returns
 returns c =
     let went = c.before.before in
     let tested = went.before in
-    ticked-by sheet_form _ _ tested.before.step-standing.ensures tested.state-verdict.ensures _ went.go.ensures c.before.node_at.ensures c.answer.ensures
+    ticked_by sheet_form _ _ tested.before.step-standing.ensures tested.state-verdict.ensures _ went.go.ensures c.before.node_at.ensures c.answer.ensures
 
 pub tick-sheet-spec : {M : Type 1} → statement M
 tick-sheet-spec =

@@ -5,15 +5,15 @@ use mathlib.Core.Path.{◌≡◌, refl, ap, ◌∙◌}
 use native.Mathlib.Omega.{arith}
 use borrow.Author.Rules.{rules}
 use Rattle.records.specs.Words.{word_of}
-use Rattle.records.proofs.WordLaws.{added_more, added-fits}
+use Rattle.records.proofs.WordLaws.{added_more, added_fits}
 use Rattle.image.proofs.SettingsLaws.{ten_groups}
 use Rattle.pins.specs.Pins.{pins_of}
-use Rattle.pins.proofs.PinLaws.{pinAt, pin-here}
+use Rattle.pins.proofs.PinLaws.{pin_at, pin_here}
 use Rattle.pins.proofs.drive_all.Statement.{statement}
 use Rattle.pins.proofs.drive_all.Tie as tie
 
 abbrev invariant-loop : tie.invariant-loop
-invariant-loop outputs settings word₀ k₀ word k = (k ≤ 10) × (word ≡ word_of (pinAt settings outputs) k)
+invariant-loop outputs settings word₀ k₀ word k = (k ≤ 10) × (word ≡ word_of (pin_at settings outputs) k)
 
 abbrev decreases-loop : tie.decreases-loop
 decreases-loop outputs settings word₀ k₀ word k = 10 - k
@@ -25,16 +25,16 @@ loop-holds c = (omega arith, refl)
 -- what is driven is pin k
 driven : (c : tie.After-drive invariant-loop decreases-loop)
     → c.drive.result
-    ≡ pinAt c.before.before.before.before.before.before.args.t1 c.before.before.before.before.before.before.args.outputs c.before.before.before.before.before.loop.k
+    ≡ pin_at c.before.before.before.before.before.before.args.t1 c.before.before.before.before.before.before.args.outputs c.before.before.before.before.before.loop.k
 driven c =
     let l = c.before.before.before.before.before in
     let s = l.before in
-    pin-here s.args.t1 s.args.outputs l.loop.k _ _ _ (ten_groups s.args.t1 _ s.well-formed.0) (omega arith) c.before.word_bit.ensures c.drive.ensures
+    pin_here s.args.t1 s.args.outputs l.loop.k _ _ _ (ten_groups s.args.t1 _ s.well-formed.0) (omega arith) c.before.word_bit.ensures c.drive.ensures
 
 add-word : tie.Need-overflow-add-word invariant-loop decreases-loop
 add-word c =
     let l = c.before.before.before.before.before.before.loop in
-    record { fits = added-fits _ l.k _ _ _ l.invariant.1 c.bit.ensures (driven c.before) (omega arith) }
+    record { fits = added_fits _ l.k _ _ _ l.invariant.1 c.bit.ensures (driven c.before) (omega arith) }
 
 loop-again : tie.Need-loop-preserved invariant-loop decreases-loop
 loop-again c =
@@ -46,7 +46,7 @@ unfolding pins_of
 returns c =
     let l = c.before in
     let all : l.loop.k ≡ 10 = omega arith in
-    l.loop.invariant.1 ∙ ap (word_of (pinAt l.before.args.t1 l.before.args.outputs)) all
+    l.loop.invariant.1 ∙ ap (word_of (pin_at l.before.args.t1 l.before.args.outputs)) all
 
 pub drive-all-spec : {M : Type 1} → statement M
 drive-all-spec =

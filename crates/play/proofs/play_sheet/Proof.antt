@@ -7,7 +7,7 @@ use lib.ListN.{length, length-take}
 use borrow.Author.Rules.{rules}
 use Rattle.translator.specs.Translation.{translation}
 use Rattle.translator.specs.declared.Translation.{Translation}
-use Rattle.translator.proofs.VerdictLaws.{verdict-accepted, accepted-cells}
+use Rattle.translator.proofs.VerdictLaws.{verdict_accepted, accepted_cells}
 use Rattle.play.proofs.play_sheet.Statement.{statement}
 use Rattle.play.proofs.play_sheet.Tie as tie
 
@@ -15,7 +15,7 @@ use Rattle.play.proofs.play_sheet.Tie as tie
 room_for : (sheet buffer : List ℕ) → (translation sheet buffer).verdict.number ≡ 0 → 12 * (translation sheet buffer).cells ≤ length buffer
 unfolding translation
 room_for sheet buffer h =
-    subst (λ (n : ℕ). 12 * n ≤ length buffer) (sym (accepted-cells sheet buffer h)) ((verdict-accepted sheet (length buffer)).0 h).roomy
+    subst (λ (n : ℕ). 12 * n ≤ length buffer) (sym (accepted_cells sheet buffer h)) ((verdict_accepted sheet (length buffer)).0 h).roomy
 
 within : (c : tie.After-struct-known2)
     → 12 * c.before.before.before.before.before.translate.result.cells ≤ length c.before.before.before.before.before.translate.new.1.0

@@ -11,7 +11,7 @@ use Rattle.image.proofs.SettingsLaws.{settings_read}
 use Rattle.detectors.specs.Bank.{start_bank}
 use Rattle.detectors.specs.Tick.{refused_on}
 use Rattle.recordings.specs.Recordings.{detected_after}
-use Rattle.recordings.proofs.RecordingLaws.{recorded-bad-image, recorded-uneven, recorded-whole}
+use Rattle.recordings.proofs.RecordingLaws.{recorded_bad_image, recorded_uneven, recorded_whole}
 use Rattle.recordings.proofs.recorded.Statement.{statement}
 use Rattle.recordings.proofs.recorded.Tie as tie
 
@@ -28,7 +28,7 @@ returns c =
     let number = ap (λ (r : Reading). r.verdict.number) read.read.ensures in
     c.at-start.ensures
     ∙ ap (λ (r : Reading). refused_on r.verdict start_bank) read.read.ensures
-    ∙ sym (recorded-bad-image start.image.now start.recording.now (λ zero. c.before.if1.true (number ∙ zero)))
+    ∙ sym (recorded_bad_image start.image.now start.recording.now (λ zero. c.before.if1.true (number ∙ zero)))
 
 returns-2 : tie.Need-returns-2
 returns-2 c =
@@ -36,7 +36,7 @@ returns-2 c =
     let start = passed.before.before.before.before.before.args in
     c.at-start2.ensures
     ∙ ap (λ (v : Verdict). refused_on v start_bank) c.before.refused.ensures
-    ∙ sym (recorded-uneven start.image.now start.recording.now (good passed) c.before.before.if2.true)
+    ∙ sym (recorded_uneven start.image.now start.recording.now (good passed) c.before.before.if2.true)
 
 returns-3 : tie.Need-returns-3
 returns-3 c =
@@ -48,7 +48,7 @@ returns-3 c =
     let settings = ap (λ (r : Reading). r.settings) read.read.ensures ∙ settings_read start.image.now (good passed) in
     c.detect.ensures
     ∙ ap (λ (s : Settings). detected_after s recording (length recording / 220)) settings
-    ∙ sym (recorded-whole start.image.now recording (good passed) whole.if2.false)
+    ∙ sym (recorded_whole start.image.now recording (good passed) whole.if2.false)
 
 pub recorded-spec : {M : Type 1} → statement M
 recorded-spec =

@@ -1,7 +1,7 @@
 -- `state_calls::tick_table` meets its contract: the state's bytes are tested, the tick made, and its state written back. Assumes nothing.
 use borrow.Author.Rules.{rules}
 use Rattle.engine.specs.Engine.{table_form}
-use Rattle.state_calls.proofs.StateCallLaws.{ticked-by}
+use Rattle.state_calls.proofs.StateCallLaws.{ticked_by}
 use Rattle.state_calls.proofs.tick_table.Statement.{statement}
 use Rattle.state_calls.proofs.tick_table.Tie as tie
 
@@ -14,7 +14,7 @@ returns c =
     let from = ticked.before in
     let a = from.before.before.before.before.args in
     let told = wrote.write-after.ensures in
-    ticked-by table_form a.table.now a.state.now from.state_from_lem.ensures tested.bytes_verdict_lem.ensures made.answer.ensures a.word
+    ticked_by table_form a.table.now a.state.now from.state_from_lem.ensures tested.bytes_verdict_lem.ensures made.answer.ensures a.word
     ticked.tick-table.ensures
     told.0
     told.1

@@ -9,18 +9,18 @@ use lib.ListN.{length, drop}
 use Rattle.records.specs.Lists.{each}
 use Rattle.records.specs.Words.{word_of}
 use Rattle.records.proofs.ListLaws.{filled_more}
-use Rattle.records.proofs.WordLaws.{added_more, added-fits}
+use Rattle.records.proofs.WordLaws.{added_more, added_fits}
 use Rattle.channels.specs.declared.Ran.{Ran}
 use Rattle.detectors.proofs.BankLaws.{ten_channels}
-use Rattle.detectors.proofs.TickLaws.{ranAt, ran-all}
+use Rattle.detectors.proofs.TickLaws.{ran_at, ran_all}
 use Rattle.detectors.proofs.advancing.advance.Statement.{statement}
 use Rattle.detectors.proofs.advancing.advance.Tie as tie
 
 abbrev invariant-loop : tie.invariant-loop
 invariant-loop settings bank frames n after₀ faults₀ warnings₀ k₀ after faults warnings k =
     (k ≤ 10)
-    × ((after.channels ≡ each (λ j. (ranAt settings frames bank n j).channel) 0 k ++ drop k bank.channels)
-    × ((faults ≡ word_of (λ j. (ranAt settings frames bank n j).fault) k) × (warnings ≡ word_of (λ j. (ranAt settings frames bank n j).warning) k)))
+    × ((after.channels ≡ each (λ j. (ran_at settings frames bank n j).channel) 0 k ++ drop k bank.channels)
+    × ((faults ≡ word_of (λ j. (ran_at settings frames bank n j).fault) k) × (warnings ≡ word_of (λ j. (ran_at settings frames bank n j).warning) k)))
 
 abbrev decreases-loop : tie.decreases-loop
 decreases-loop settings bank frames n after₀ faults₀ warnings₀ k₀ after faults warnings k = 10 - k
@@ -36,18 +36,18 @@ loop-holds c = (omega arith, (refl, (refl, refl)))
 -- the run is that of channel k
 ran : (c : tie.After-run invariant-loop decreases-loop)
     → c.run.result
-    ≡ ranAt c.before.before.before.before.before.before.args.settings c.before.before.before.before.before.before.args.frames.now c.before.before.before.before.before.before.args.bank c.before.before.before.before.before.before.args.n c.before.before.before.before.loop.k
+    ≡ ran_at c.before.before.before.before.before.before.args.settings c.before.before.before.before.before.before.args.frames.now c.before.before.before.before.before.before.args.bank c.before.before.before.before.before.before.args.n c.before.before.before.before.loop.k
 ran c = rw (c.run.ensures, c.before.group_at.ensures, c.before.before.channel-at.ensures)
 
 add-faults : tie.Need-overflow-add-faults invariant-loop decreases-loop
 add-faults c =
     let l = c.before.before.before.before.before.before in
-    record { fits = added-fits _ l.loop.k _ _ _ l.loop.invariant.1.1.0 c.bit.ensures (ap (λ (r : Ran). r.fault) (ran c.before.before)) (omega arith) }
+    record { fits = added_fits _ l.loop.k _ _ _ l.loop.invariant.1.1.0 c.bit.ensures (ap (λ (r : Ran). r.fault) (ran c.before.before)) (omega arith) }
 
 add-warnings : tie.Need-overflow-add-warnings invariant-loop decreases-loop
 add-warnings c =
     let l = c.before.before.before.before.before.before.before in
-    record { fits = added-fits _ l.loop.k _ _ _ l.loop.invariant.1.1.1 c.bit2.ensures (ap (λ (r : Ran). r.warning) (ran c.before.before.before)) (omega arith) }
+    record { fits = added_fits _ l.loop.k _ _ _ l.loop.invariant.1.1.1 c.bit2.ensures (ap (λ (r : Ran). r.warning) (ran c.before.before.before)) (omega arith) }
 
 loop-again : tie.Need-loop-preserved invariant-loop decreases-loop
 loop-again c =
@@ -69,7 +69,7 @@ returns : tie.Need-returns invariant-loop decreases-loop
 returns c =
     let l = c.before in
     let s = l.before.before in
-    ran-all s.args.settings s.args.frames.now s.args.bank s.args.n l.loop.k _ _ _ s.requires (omega arith) (channels s) l.loop.invariant.1.0 l.loop.invariant.1.1.0 l.loop.invariant.1.1.1
+    ran_all s.args.settings s.args.frames.now s.args.bank s.args.n l.loop.k _ _ _ s.requires (omega arith) (channels s) l.loop.invariant.1.0 l.loop.invariant.1.1.0 l.loop.invariant.1.1.1
 
 pub advance-spec : {M : Type 1} → statement M
 advance-spec =

@@ -6,7 +6,7 @@ use native.Mathlib.Omega.{arith}
 use borrow.Author.Rules.{rules}
 use borrow.Author.Tests.{not-true, not-false}
 use Rattle.records.specs.Numbers.{unreachable}
-use Rattle.records.proofs.VerdictLaws.{Searched, searched-none, searched-end, flagged, flag-pass, flag-hit}
+use Rattle.records.proofs.VerdictLaws.{Searched, searched_none, searched_end, flagged, flag_pass, flag_hit}
 use Rattle.detectors.specs.Bank.{bank_verdict}
 use Rattle.detectors.proofs.BankLaws.{channel_flag}
 use Rattle.detectors.proofs.advancing.bank_verdict.Statement.{statement}
@@ -20,7 +20,7 @@ decreases-loop settings bank k₀ k = 10 - k
 
 loop-holds : tie.Need-loop-init invariant-loop decreases-loop
 unfolding bank_verdict
-loop-holds c = searched-none refl refl
+loop-holds c = searched_none refl refl
 
 -- the flag is that of channel k
 flag : (c : tie.After-in-range invariant-loop decreases-loop)
@@ -33,16 +33,16 @@ returns c =
     let tested = c.before.before in
     let a = tested.before.before.before.before.before.args in
     c.refused.ensures
-    ∙ flag-hit (channel_flag a.settings a.bank) unreachable (λ j. j) tested.before.before.before.before.loop.invariant (omega arith) (λ z. omega arith)
+    ∙ flag_hit (channel_flag a.settings a.bank) unreachable (λ j. j) tested.before.before.before.before.loop.invariant (omega arith) (λ z. omega arith)
     (sym (flag tested) ∙ not-true _ c.before.if1.true)
 
 loop-again : tie.Need-loop-preserved invariant-loop decreases-loop
 loop-again c =
     let a = c.before.before.before.before.before.before.args in
-    flag-pass (channel_flag a.settings a.bank) unreachable (λ j. j) c.before.before.before.before.before.loop.invariant (omega arith) (sym (flag c.before) ∙ not-false _ c.if1.false)
+    flag_pass (channel_flag a.settings a.bank) unreachable (λ j. j) c.before.before.before.before.before.loop.invariant (omega arith) (sym (flag c.before) ∙ not-false _ c.if1.false)
 
 returns-2 : tie.Need-returns-2 invariant-loop decreases-loop
-returns-2 c = c.accepted.ensures ∙ searched-end c.before.before.loop.invariant (omega arith)
+returns-2 c = c.accepted.ensures ∙ searched_end c.before.before.loop.invariant (omega arith)
 
 pub bank-verdict-spec : {M : Type 1} → statement M
 bank-verdict-spec =

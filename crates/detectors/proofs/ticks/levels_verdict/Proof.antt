@@ -6,7 +6,7 @@ use native.Mathlib.Omega.{arith}
 use borrow.Author.Rules.{rules}
 use borrow.Author.Tests.{lt-ltb, le-ltb}
 use Rattle.records.specs.Numbers.{bad_word}
-use Rattle.records.proofs.VerdictLaws.{Searched, searched-none, searched-end, flagged, flag-pass, flag-hit}
+use Rattle.records.proofs.VerdictLaws.{Searched, searched_none, searched_end, flagged, flag_pass, flag_hit}
 use Rattle.detectors.specs.Tick.{levels_in_range, levels_verdict}
 use Rattle.detectors.proofs.TickLaws.{levels_read}
 use Rattle.detectors.proofs.ticks.levels_verdict.Statement.{statement}
@@ -20,20 +20,20 @@ decreases-loop frames n i₀ i = n - i
 
 loop-holds : tie.Need-loop-init invariant-loop decreases-loop
 unfolding levels_verdict
-loop-holds c = searched-none refl refl
+loop-holds c = searched_none refl refl
 
 returns : tie.Need-returns invariant-loop decreases-loop
 returns c =
     let l = c.before.before.before.before.loop in
-    c.refused.ensures ∙ flag-hit (levels_in_range _) bad_word (λ j. 0) l.invariant (omega arith) (λ z. omega arith) (levels_read _ l.i ∙ le-ltb _ _ c.before.if1.true)
+    c.refused.ensures ∙ flag_hit (levels_in_range _) bad_word (λ j. 0) l.invariant (omega arith) (λ z. omega arith) (levels_read _ l.i ∙ le-ltb _ _ c.before.if1.true)
 
 loop-again : tie.Need-loop-preserved invariant-loop decreases-loop
 loop-again c =
     let l = c.before.before.before.loop in
-    flag-pass (levels_in_range _) bad_word (λ j. 0) l.invariant (omega arith) (levels_read _ l.i ∙ lt-ltb _ _ c.if1.false)
+    flag_pass (levels_in_range _) bad_word (λ j. 0) l.invariant (omega arith) (levels_read _ l.i ∙ lt-ltb _ _ c.if1.false)
 
 returns-2 : tie.Need-returns-2 invariant-loop decreases-loop
-returns-2 c = c.accepted.ensures ∙ searched-end c.before.before.loop.invariant (omega arith)
+returns-2 c = c.accepted.ensures ∙ searched_end c.before.before.loop.invariant (omega arith)
 
 pub levels-verdict-spec : {M : Type 1} → statement M
 levels-verdict-spec =

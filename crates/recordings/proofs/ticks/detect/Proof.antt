@@ -10,7 +10,7 @@ use Rattle.detectors.specs.Bank.{start_bank}
 use Rattle.detectors.specs.Tick.{refused_on}
 use Rattle.records.specs.declared.Verdict.{Verdict}
 use Rattle.recordings.specs.Recordings.{start_detected, detected_after}
-use Rattle.recordings.proofs.RecordingLaws.{one_more, refusal-stays}
+use Rattle.recordings.proofs.RecordingLaws.{one_more, refusal_stays}
 use Rattle.recordings.proofs.ticks.detect.Statement.{statement}
 use Rattle.recordings.proofs.ticks.detect.Tie as tie
 
@@ -46,7 +46,7 @@ returns c =
     omega (arith, ticked.before.before.loop-test.true, top.loop.invariant.1.0) in
     let is = next ticked in
     is
-    ∙ sym (refusal-stays top.before.before.before.before.args.settings recording (n + 1) (length recording / 220 - (n + 1)) (λ zero. c.if1.true (ap (λ (d : Detected). d.verdict.number) is ∙ zero)))
+    ∙ sym (refusal_stays top.before.before.before.before.args.settings recording (n + 1) (length recording / 220 - (n + 1)) (λ zero. c.if1.true (ap (λ (d : Detected). d.verdict.number) is ∙ zero)))
     ∙ ap (detected_after top.before.before.before.before.args.settings recording) whole
 
 loop-again : tie.Need-loop-preserved invariant-loop decreases-loop

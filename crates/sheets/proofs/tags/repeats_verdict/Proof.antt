@@ -10,9 +10,9 @@ use borrow.Author.Rules.{rules}
 use borrow.Author.Tests.{eq-eqb, ne_eqb}
 use Rattle.records.specs.Tags.{tag_at, used_before, repeats}
 use Rattle.records.specs.Verdicts.{refused_unless}
-use Rattle.records.proofs.VerdictLaws.{chain_one, Searched, searched-none, flag-pass, flag-hit, searched-end}
-use Rattle.records.proofs.TagSearch.{used-none, used-pass}
-use Rattle.records.proofs.TagLaws.{some-repeats}
+use Rattle.records.proofs.VerdictLaws.{chain_one, Searched, searched_none, flag_pass, flag_hit, searched_end}
+use Rattle.records.proofs.TagSearch.{used_none, used_pass}
+use Rattle.records.proofs.TagLaws.{some_repeats}
 use Rattle.sheets.specs.Sheets.{repeats_verdict}
 use Rattle.sheets.proofs.tags.repeats_verdict.Statement.{statement}
 use Rattle.sheets.proofs.tags.repeats_verdict.Tie as tie
@@ -35,15 +35,15 @@ decreases-search sheet steps later₀ later = steps - later
 
 search-holds : tie.Need-search-init invariant-loop decreases-loop invariant-search decreases-search
 unfolding repeats_verdict
-search-holds c = searched-none c.step_count.ensures refl
+search-holds c = searched_none c.step_count.ensures refl
 
 loop-holds : tie.Need-loop-init invariant-loop decreases-loop invariant-search decreases-search
-loop-holds c = (omega arith, used-none 16 _ _)
+loop-holds c = (omega arith, used_none 16 _ _)
 
 loop-again : tie.Need-loop-preserved invariant-loop decreases-loop invariant-search decreases-search
 loop-again c =
     let so = c.before.before.before.before.loop in
-    (omega arith, used-pass 16 _ _ _ so.invariant.1 (λ t. c.if1.false (c.before.before.tag.ensures ∙ t ∙ sym c.before.tag2.ensures)))
+    (omega arith, used_pass 16 _ _ _ so.invariant.1 (λ t. c.if1.false (c.before.before.tag.ensures ∙ t ∙ sym c.before.tag2.ensures)))
 
 search-again : tie.Need-search-preserved invariant-loop decreases-loop invariant-search decreases-search
 unfolding repeats
@@ -51,7 +51,7 @@ search-again c =
     let turn = c.before.before in
     let later = turn.before.search.later in
     let all : c.before.loop.earlier ≡ later = omega arith in
-    flag-pass (fresh _) 5 (λ j. j) turn.before.search.invariant turn.search-test.true (ap not (sym (ap (used_before 16 _ _) all) ∙ c.before.loop.invariant.1))
+    flag_pass (fresh _) 5 (λ j. j) turn.before.search.invariant turn.search-test.true (ap not (sym (ap (used_before 16 _ _) all) ∙ c.before.loop.invariant.1))
 
 returns : tie.Need-returns invariant-loop decreases-loop invariant-search decreases-search
 returns c =
@@ -64,11 +64,11 @@ returns c =
     ∙ ⊎_elim
     (λ w.
     ap (λ (b : Bool). refused_unless b 5 later) (eq-eqb later steps (omega arith))
-    ∙ searched-end at.search.invariant w.left)
+    ∙ searched_end at.search.invariant w.left)
     (λ w.
     ap (λ (b : Bool). refused_unless b 5 later) (ne_eqb later steps (omega arith))
-    ∙ flag-hit (fresh sheet) 5 (λ j. j) at.search.invariant w.0.taken (λ z. omega arith)
-    (ap not (some-repeats 16 sheet w.1.earlier later w.2.taken (sym w.3.ensures ∙ w.5.taken ∙ w.4.ensures))))
+    ∙ flag_hit (fresh sheet) 5 (λ j. j) at.search.invariant w.0.taken (λ z. omega arith)
+    (ap not (some_repeats 16 sheet w.1.earlier later w.2.taken (sym w.3.ensures ∙ w.5.taken ∙ w.4.ensures))))
     left.search-test.branch
 
 pub repeats-verdict-spec : {M : Type 1} → statement M

@@ -9,7 +9,7 @@ use borrow.Author.Rules.{rules}
 use borrow.Author.Tests.{eq-eqb, ne_eqb}
 use Rattle.records.specs.Verdicts.{refused_unless}
 use Rattle.records.specs.declared.Verdict.{Verdict}
-use Rattle.records.proofs.VerdictLaws.{Searched, searched-none, flag-pass, flag-hit, searched-end}
+use Rattle.records.proofs.VerdictLaws.{Searched, searched_none, flag_pass, flag_hit, searched_end}
 use Rattle.steps.specs.Steps.{step_at, step_fault}
 use Rattle.sheets.specs.Sheets.{fields_verdict}
 use Rattle.sheets.proofs.verdict.fields_verdict.Statement.{statement}
@@ -27,7 +27,7 @@ decreases-loop sheet steps k₀ k = steps - k
 
 loop-holds : tie.Need-loop-init invariant-loop decreases-loop
 unfolding fields_verdict
-loop-holds c = searched-none c.step_count.ensures refl
+loop-holds c = searched_none c.step_count.ensures refl
 
 -- the fault that the code found is step k's
 fault-of : (c : tie.After-step-fault invariant-loop decreases-loop)
@@ -39,16 +39,16 @@ returns c =
     let fault = c.before.before.before in
     let turn = fault.before.before in
     c.refused.ensures
-    ∙ flag-hit (sound _) 4 (λ j. j) turn.before.loop.invariant turn.loop-test.true (λ z. omega arith) (sym (fault-of fault) ∙ ne_eqb _ 0 c.before.if1.true)
+    ∙ flag_hit (sound _) 4 (λ j. j) turn.before.loop.invariant turn.loop-test.true (λ z. omega arith) (sym (fault-of fault) ∙ ne_eqb _ 0 c.before.if1.true)
 
 loop-again : tie.Need-loop-preserved invariant-loop decreases-loop
 loop-again c =
     let fault = c.before.before in
     let turn = fault.before.before in
-    flag-pass (sound _) 4 (λ j. j) turn.before.loop.invariant turn.loop-test.true (sym (fault-of fault) ∙ eq-eqb _ 0 c.if1.false)
+    flag_pass (sound _) 4 (λ j. j) turn.before.loop.invariant turn.loop-test.true (sym (fault-of fault) ∙ eq-eqb _ 0 c.if1.false)
 
 returns-2 : tie.Need-returns-2 invariant-loop decreases-loop
-returns-2 c = c.accepted.ensures ∙ searched-end c.before.before.loop.invariant c.before.loop-test.false
+returns-2 c = c.accepted.ensures ∙ searched_end c.before.before.loop.invariant c.before.loop-test.false
 
 pub fields-verdict-spec : {M : Type 1} → statement M
 fields-verdict-spec =

@@ -7,7 +7,7 @@ use native.Mathlib.Omega.{arith}
 use lib.ListN.{length, get_or, set, length-set}
 use lib.Seq.{paste, paste-zero, paste-suc}
 use borrow.Author.Rules.{rules}
-use Rattle.text.proofs.TextLaws.{line_of, line_bytes, appended-pasted}
+use Rattle.text.proofs.TextLaws.{line_of, line_bytes, appended_pasted}
 use Rattle.text.proofs.Line.word.Statement.{statement}
 use Rattle.text.proofs.Line.word.Tie as tie
 
@@ -54,7 +54,7 @@ returns c =
     let count = called.least.result in
     let all : l.i ≡ count = omega arith in
     ap (λ (bytes : List ℕ). line_of bytes (start + count)) (l.invariant.2 ∙ ap (paste line.bytes start text) all)
-    ∙ appended-pasted line (whole entry) text start count counted.count.ensures.1 called.least.ensures
+    ∙ appended_pasted line (whole entry) text start count counted.count.ensures.1 called.least.ensures
 
 pub word-spec : {M : Type 1} → statement M
 word-spec =

@@ -5,7 +5,7 @@ use native.Mathlib.Omega.{arith}
 use native.Mathlib.Numerals.{add-one}
 use borrow.Author.Rules.{rules}
 use Rattle.translator.specs.Translation.{cells_of, first_cell}
-use Rattle.translator.proofs.CellCounts.{first-zero, first-suc}
+use Rattle.translator.proofs.CellCounts.{first_zero, first_suc}
 use Rattle.translator.proofs.cells.first_cell.Statement.{statement}
 use Rattle.translator.proofs.cells.first_cell.Tie as tie
 
@@ -16,14 +16,14 @@ abbrev decreases-loop : tie.decreases-loop
 decreases-loop sheet step first₀ i₀ first i = step - i
 
 loop-holds : tie.Need-loop-init invariant-loop decreases-loop
-loop-holds c = (sym (first-zero _), omega arith, omega arith)
+loop-holds c = (sym (first_zero _), omega arith, omega arith)
 
 loop-again : tie.Need-loop-preserved invariant-loop decreases-loop
 loop-again c =
     let turn = c.before.before in
     let sheet = turn.before.before.args.sheet.now in
     let i = turn.loop.i in
-    let more : first_cell sheet (i + 1) ≡ first_cell sheet i + cells_of sheet i = ap (first_cell sheet) (add-one i) ∙ first-suc sheet i in
+    let more : first_cell sheet (i + 1) ≡ first_cell sheet i + cells_of sheet i = ap (first_cell sheet) (add-one i) ∙ first_suc sheet i in
     (omega arith, omega arith, omega arith)
 
 returns : tie.Need-returns invariant-loop decreases-loop

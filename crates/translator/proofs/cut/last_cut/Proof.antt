@@ -8,10 +8,10 @@ use Rattle.machine.specs.declared.Node.{Node}
 use Rattle.machine.proofs.StandLaws.{Leads}
 use Rattle.steps.specs.Steps.{step_at}
 use Rattle.sheets.specs.Sheets.{node_at}
-use Rattle.sheets.proofs.AcceptedSheet.{sheet-accepted}
+use Rattle.sheets.proofs.AcceptedSheet.{sheet_accepted}
 use Rattle.translator.specs.Translation.{cells_of, first_cell, cell_total, cut_at}
-use Rattle.translator.proofs.CutLaws.{last-timeout, last-to}
-use Rattle.translator.proofs.CutLeads.{rest_left, cut-leads}
+use Rattle.translator.proofs.CutLaws.{last_timeout, last_to}
+use Rattle.translator.proofs.CutLeads.{rest_left, cut_leads}
 use Rattle.translator.proofs.cut.last_cut.Statement.{statement}
 use Rattle.translator.proofs.cut.last_cut.Tie as tie
 
@@ -21,7 +21,7 @@ leads : (c : tie.After-node-at)
 leads c =
     let s = c.before.before in
     let last : s.args.j + 1 ≡ cells_of s.args.sheet.now s.args.i = s.requires.1.1.1 in
-    cut-leads _ ((sheet-accepted _).0 s.requires.0) _ _ s.requires.1.1.0 (omega (arith, last))
+    cut_leads _ ((sheet_accepted _).0 s.requires.0) _ _ s.requires.1.1.0 (omega (arith, last))
 
 -- the cells before it take no more than the timeout
 rest : (c : tie.After-node-at) → 4000 * c.before.before.args.j ≤ c.node_at.result.timeout
@@ -55,7 +55,7 @@ timeout-of : (c : tie.After-first-cell3)
     → c.first-cell3.result ≡ (cut_at c.before.before.before.before.before.before.args.sheet.now c.before.before.before.before.before.before.args.i c.before.before.before.before.before.before.args.j).timeoutto
 timeout-of c =
     let node = c.before.before.before.before in
-    c.first-cell3.ensures ∙ led node (λ n. n.timeoutto) ∙ sym (last-to _ _ _ node.before.before.requires.1.1.1)
+    c.first-cell3.ensures ∙ led node (λ n. n.timeoutto) ∙ sym (last_to _ _ _ node.before.before.requires.1.1.1)
 
 cast-timeoutto : tie.Need-overflow-cast-timeoutto
 cast-timeoutto c = omega (arith, leads c.before.before.before.before, timeout-of c, c.before.before.before.before.before.before.requires.1.0)
@@ -65,7 +65,7 @@ rest_of : (c : tie.After-node-at)
     → c.node_at.result.timeout - 4000 * c.before.before.args.j ≡ (cut_at c.before.before.args.sheet.now c.before.before.args.i c.before.before.args.j).timeout
 unfolding node_at
 rest_of c =
-    ap (λ (n : Node). n.timeout - 4000 * c.before.before.args.j) c.node_at.ensures ∙ sym (last-timeout _ _ _ c.before.before.requires.1.1.1)
+    ap (λ (n : Node). n.timeout - 4000 * c.before.before.args.j) c.node_at.ensures ∙ sym (last_timeout _ _ _ c.before.before.requires.1.1.1)
 
 returns : tie.Need-returns
 unfolding cut_at node_at

@@ -4,7 +4,7 @@ use native.Mathlib.Omega.{arith}
 use lib.ListN.{length}
 use borrow.Author.Rules.{rules}
 use Rattle.translator.specs.Translation.{first_cell, cell_total, translation}
-use Rattle.translator.proofs.VerdictLaws.{Accepted, verdict-accepted, accepted-cells, accepted-bytes, refused-cells, refused-bytes}
+use Rattle.translator.proofs.VerdictLaws.{Accepted, verdict_accepted, accepted_cells, accepted_bytes, refused_cells, refused_bytes}
 use Rattle.translator.proofs.writer.translate.Statement.{statement}
 use Rattle.translator.proofs.writer.translate.Tie as tie
 
@@ -15,7 +15,7 @@ passed c = rw c.before.before.translation-verdict.ensures at c.if1.false
 
 all_of : (c : tie.Else1) → Accepted c.before.before.before.before.before.args.sheet.now (length c.before.before.before.before.before.args.table.now)
 unfolding translation
-all_of c = (verdict-accepted _ _).0 (passed c)
+all_of c = (verdict_accepted _ _).0 (passed c)
 
 total_of : (c : tie.After-first-cell)
     → c.first_Cell.result ≡ cell_total c.before.before.before.before.before.before.before.before.before.before.before.args.sheet.now
@@ -28,8 +28,8 @@ returns c =
     let told = c.before.before.translation-verdict.ensures in
     let refuses = rw told at c.if1.true in
     let a = c.before.before.before.before.before.args in
-    let cells = sym (refused-cells a.sheet.now a.table.now refuses) in
-    (λ i. record { verdict = told i; cells = cells i }, sym (refused-bytes a.sheet.now a.table.now refuses))
+    let cells = sym (refused_cells a.sheet.now a.table.now refuses) in
+    (λ i. record { verdict = told i; cells = cells i }, sym (refused_bytes a.sheet.now a.table.now refuses))
 
 write-steps-requires : tie.Need-write-steps-requires
 write-steps-requires c κs = let all = all_of c.before in (all.sound, (all.few, all.roomy))
@@ -41,8 +41,8 @@ returns-2 c =
     let found = c.before.before.before.before.before.before in
     let told = found.before.before.translation-verdict.ensures in
     let a = found.before.before.before.before.before.args in
-    let cells = total_of c ∙ sym (accepted-cells a.sheet.now a.table.now (passed found)) in
-    (λ i. record { verdict = told i; cells = cells i }, written ∙ sym (accepted-bytes a.sheet.now a.table.now (passed found)))
+    let cells = total_of c ∙ sym (accepted_cells a.sheet.now a.table.now (passed found)) in
+    (λ i. record { verdict = told i; cells = cells i }, written ∙ sym (accepted_bytes a.sheet.now a.table.now (passed found)))
 
 pub translate-spec : {M : Type 1} → statement M
 translate-spec =

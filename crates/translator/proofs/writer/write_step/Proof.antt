@@ -8,9 +8,9 @@ use borrow.Author.Rules.{rules}
 use Rattle.steps.specs.Steps.{step_at}
 use Rattle.translator.specs.Translation.{first_cell}
 use Rattle.translator.proofs.CellCounts.{cells_least}
-use Rattle.translator.proofs.CutLeads.{step-within}
+use Rattle.translator.proofs.CutLeads.{step_within}
 use Rattle.translator.proofs.CutLaws.{cut_from}
-use Rattle.translator.proofs.WriteLaws.{CellsWritten, cells-none, cells-more, cells-all}
+use Rattle.translator.proofs.WriteLaws.{CellsWritten, cells_none, cells_more, cells_all}
 use Rattle.translator.proofs.writer.write_step.Statement.{statement}
 use Rattle.translator.proofs.writer.write_step.Tie as tie
 
@@ -25,7 +25,7 @@ within : (c : tie.In-loop invariant-loop decreases-loop)
     → (c.before.before.before.before.before.args.first + c.before.loop.j < 63) × (12 * (c.before.before.before.before.before.args.first + c.before.loop.j) + 12 ≤ length c.before.before.before.before.before.args.table.now)
 within c =
     let s = c.before.before.before.before.before in
-    (omega (arith, step-within _ _ s.requires.1.1.1.0, s.requires), omega (arith, step-within _ _ s.requires.1.1.1.0, s.requires))
+    (omega (arith, step_within _ _ s.requires.1.1.1.0, s.requires), omega (arith, step_within _ _ s.requires.1.1.1.0, s.requires))
 
 -- a step takes a cell at least
 some : (c : tie.After-slice-known invariant-loop decreases-loop) → 1 ≤ c.before.before.args.cells
@@ -48,7 +48,7 @@ loop-again c =
     let next : s.args.first + top.loop.j + 1 ≡ first_cell s.args.sheet.now s.args.i + top.loop.j + 1 = omega (arith, s.requires.1.1.1.1.0) in
     let cell =
     cut_from s.args.sheet.now s.args.i top.loop.j s.args.cells _ _ _ s.requires.1.1.1.1.1 (some top.before.before) top.before.last-cut.ensures next cut.cut.ensures in (
-      cells-more _ _ _ _ _ _ _ top.loop.invariant.0 (within cut.before).1 _ cell written.ensures.1 written.auto.1.0,
+      cells_more _ _ _ _ _ _ _ top.loop.invariant.0 (within cut.before).1 _ cell written.ensures.1 written.auto.1.0,
       omega arith,
     )
 
@@ -56,7 +56,7 @@ returns : tie.Need-returns invariant-loop decreases-loop
 returns c =
     let s = c.before.before.before.before.before in
     let all : c.before.loop.j ≡ s.args.cells = omega arith in
-    cells-all _ _ _ _ _ _ _ c.before.loop.invariant.0 all s.requires.1.1.1.1.1
+    cells_all _ _ _ _ _ _ _ c.before.loop.invariant.0 all s.requires.1.1.1.1.1
 
 pub write-step-spec : {M : Type 1} → statement M
 write-step-spec =
@@ -66,7 +66,7 @@ write-step-spec =
     decreases-loop
     (λ c. omega (arith, some c))
     last-cut-requires
-    (λ c. (cells-none _ _ _ _, omega arith))
+    (λ c. (cells_none _ _ _ _, omega arith))
     (λ c. omega (arith, within c))
     (λ c. omega (arith, within c))
     (λ c. omega (arith, within c))

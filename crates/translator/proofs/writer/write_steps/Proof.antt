@@ -5,8 +5,8 @@ use mathlib.Core.Path.{◌≡◌}
 use native.Mathlib.Omega.{arith}
 use borrow.Author.Rules.{rules}
 use Rattle.steps.specs.Steps.{step_count}
-use Rattle.translator.proofs.CutLeads.{step-within}
-use Rattle.translator.proofs.WriteLaws.{StepsWritten, steps-none, steps-more, steps_all}
+use Rattle.translator.proofs.CutLeads.{step_within}
+use Rattle.translator.proofs.WriteLaws.{StepsWritten, steps_none, steps_more, steps_all}
 use Rattle.translator.proofs.writer.write_steps.Statement.{statement}
 use Rattle.translator.proofs.writer.write_steps.Tie as tie
 
@@ -28,13 +28,13 @@ add-first c =
     let turn = cells.before.before in
     let s = turn.before.before.before.before in
     let here : turn.loop.i < step_count s.args.sheet.now = omega arith in
-    omega (arith, turn.loop.invariant.0.counted, cells.Cells-of.ensures.0, step-within s.args.sheet.now turn.loop.i here, s.requires)
+    omega (arith, turn.loop.invariant.0.counted, cells.Cells-of.ensures.0, step_within s.args.sheet.now turn.loop.i here, s.requires)
 
 loop-again : tie.Need-loop-preserved invariant-loop decreases-loop
 loop-again c =
     let cells = c.before.before.before.before in
     let so = cells.before.before.loop.invariant in
-    (steps-more _ _ _ _ _ _ so.0 _ cells.Cells-of.ensures.0 c.before.before.write_step.ensures c.before.before.write_step.auto.1.1.1.1.0, so.1, omega arith)
+    (steps_more _ _ _ _ _ _ so.0 _ cells.Cells-of.ensures.0 c.before.before.write_step.ensures c.before.before.write_step.auto.1.1.1.1.0, so.1, omega arith)
 
 returns : tie.Need-returns invariant-loop decreases-loop
 returns c =
@@ -49,7 +49,7 @@ write-steps-spec =
     invariant-loop
     decreases-loop
     (λ c κs. search rules)
-    (λ c. (steps-none _ _, c.step_count.ensures, omega arith))
+    (λ c. (steps_none _ _, c.step_count.ensures, omega arith))
     (λ c κs. search rules)
     write-step-requires
     add-first

@@ -7,7 +7,7 @@ use borrow.Author.Rules.{rules}
 use borrow.Author.Tests.{eq-eqb, ne_eqb}
 use lib.ListN.{length, drop, get_or, length-set}
 use Rattle.records.specs.Lists.{each, copied}
-use Rattle.records.proofs.ListLaws.{filled_more, filled-all, each-elements}
+use Rattle.records.proofs.ListLaws.{filled_more, filled_all, each_elements}
 use Rattle.words.proofs.copying.copy.Goals as goal
 
 pub returns-then-part-bytes : goal.returns-then-part-bytes
@@ -34,6 +34,6 @@ returns c =
     let same = c.if-part-bytes.false in
     let a = c.args in
     let bytes = a.bytes.now in
-    filled-all _ _ _ _ (length bytes) c.loop-i.invariant.2 (omega (arith, c.loop-i-test.false, c.loop-i.invariant.0)) same
-    ∙ each-elements bytes 0
+    filled_all _ _ _ _ (length bytes) c.loop-i.invariant.2 (omega (arith, c.loop-i-test.false, c.loop-i.invariant.0)) same
+    ∙ each_elements bytes 0
     ∙ rw (eq-eqb (length a.part.now) (length bytes) same)

@@ -7,7 +7,7 @@ use borrow.Author.Rules.{rules}
 use borrow.Author.Tests.{eq-eqb, ne_eqb}
 use lib.ListN.{length, drop, get_or, length-set}
 use Rattle.records.specs.Lists.{each, copied}
-use Rattle.records.proofs.ListLaws.{filled_more, filled-all, each-elements}
+use Rattle.records.proofs.ListLaws.{filled_more, filled_all, each_elements}
 use Rattle.words.proofs.copying.copy.Given as goal
 
 abbrev pub invariant-loop-i : goal.invariant-loop-i

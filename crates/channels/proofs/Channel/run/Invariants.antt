@@ -1,0 +1,16 @@
+-- `channels::sampling::Channel::run` meets its contract. The loop's invariant: `after` is the channel after i frames, and `before` after one less.
+-- The measure is how many frames are left. Assumes nothing.
+use Prim.Native.Nat.{◌+◌, ◌-◌, ◌≤◌}
+use mathlib.Core.Path.{◌≡◌, refl, ap, ◌∙◌}
+use native.Mathlib.Omega.{arith}
+use borrow.Author.Rules.{rules}
+use Rattle.channels.specs.Run.{channel_over, ran_over}
+use Rattle.channels.proofs.FrameLaws.{over_more}
+use Rattle.channels.proofs.Channel.run.Given as goal
+
+abbrev pub invariant-loop-i : goal.invariant-loop-i
+invariant-loop-i l =
+    (l.i ≤ l.n) × ((l.before ≡ channel_over l.group l.frames l.k l.initial.before (l.i - 1)) × (l.after ≡ channel_over l.group l.frames l.k l.initial.before l.i))
+
+abbrev pub decreases-loop-i : goal.decreases-loop-i
+decreases-loop-i l = l.n - l.i

@@ -1,0 +1,19 @@
+-- `reading::reader::read_groups` meets its contract: each turn reads one more group from its part. Assumes nothing.
+use Prim.Native.Nat.{◌-◌, ◌≤◌}
+use mathlib.Core.Path.{◌≡◌, refl, ap, ◌∙◌}
+use mathlib.Core.List.{List, ◌++◌}
+use native.Mathlib.Omega.{arith}
+use borrow.Author.Rules.{rules}
+use lib.ListN.{length, drop}
+use Rattle.records.specs.Lists.{each}
+use Rattle.records.proofs.ListLaws.{filled_more, filled_all}
+use Rattle.image.specs.Reading.{group_of, settings_of}
+use Rattle.image.specs.declared.Group.{Group}
+use Rattle.reading.proofs.ReadingLaws.{group_at, part_lent, part_length, zero_ten}
+use Rattle.reading.proofs.reader.read_groups.Given as goal
+
+abbrev pub invariant-loop-k : goal.invariant-loop-k
+invariant-loop-k l = (l.k ≤ 10) × (l.groups ≡ each (group_at l.image) 0 l.k ++ drop l.k l.initial.groups)
+
+abbrev pub decreases-loop-k : goal.decreases-loop-k
+decreases-loop-k l = 10 - l.k

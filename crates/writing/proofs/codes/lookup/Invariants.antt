@@ -1,0 +1,15 @@
+-- `writing::codes::lookup` meets its contract: what is left of the table gives the whole answer. Assumes nothing.
+use Prim.Native.Nat.{◌-◌, ◌≤◌}
+use mathlib.Core.Path.{◌≡◌, refl, sym, ◌∙◌}
+use native.Mathlib.Omega.{arith}
+use borrow.Author.Rules.{rules}
+use lib.ListN.{length, drop}
+use Rattle.image.specs.Codes.{lookup_from, lookup}
+use Rattle.writing.proofs.CodeLaws.{lookup_hit, lookup_pass, lookup_end}
+use Rattle.writing.proofs.codes.lookup.Given as goal
+
+abbrev pub invariant-loop-i : goal.invariant-loop-i
+invariant-loop-i l = (l.i ≤ length l.table) × (lookup l.table l.value ≡ lookup_from l.i (drop l.i l.table) l.value)
+
+abbrev pub decreases-loop-i : goal.decreases-loop-i
+decreases-loop-i l = length l.table - l.i

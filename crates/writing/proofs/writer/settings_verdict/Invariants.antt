@@ -1,0 +1,16 @@
+-- `writing::writer::settings_verdict` meets its contract: what is left of the groups' tests gives the whole answer. Assumes nothing.
+use Prim.Native.Nat.{◌-◌}
+use mathlib.Core.Path.{◌≡◌, refl, ◌∙◌}
+use borrow.Author.Rules.{rules}
+use lib.ListN.{length}
+use Rattle.records.proofs.VerdictLaws.{Searched, searched_none, searched_pass, searched_hit, searched_end}
+use Rattle.writing.specs.Writing.{settings_verdict}
+use Rattle.image.proofs.SettingsLaws.{ten_groups}
+use Rattle.writing.proofs.WritingLaws.{settings_test, settings_groups, encoded_test}
+use Rattle.writing.proofs.writer.settings_verdict.Given as goal
+
+abbrev pub invariant-loop-k : goal.invariant-loop-k
+invariant-loop-k l = (length l.groups ≡ 10) × Searched (settings_verdict (record { groups = l.groups })) (settings_test l.groups) 10 l.k
+
+abbrev pub decreases-loop-k : goal.decreases-loop-k
+decreases-loop-k l = 10 - l.k

@@ -1,0 +1,20 @@
+-- `writing::writer::write_groups` meets its contract: each turn lends the part of one more group, whose bytes are the encoder's. Assumes nothing.
+use Prim.Native.Nat.{◌+◌, ◌-◌, ◌*◌, ◌≤◌}
+use mathlib.Core.Path.{◌≡◌, refl, ap, ◌∙◌}
+use mathlib.Core.List.{◌++◌}
+use native.Mathlib.Omega.{arith}
+use borrow.Author.Rules.{rules}
+use lib.ListN.{length, drop, length-take, length-drop}
+use Rattle.records.specs.Lists.{each}
+use Rattle.records.proofs.ListLaws.{lent_back, lent_length, filled_all}
+use Rattle.writing.specs.Writing.{image_of}
+use Rattle.image.proofs.SettingsLaws.{ten_groups}
+use Rattle.writing.proofs.WritingLaws.{byte_at, group_bytes_lem}
+use Rattle.writing.proofs.writer.write_groups.Given as goal
+
+abbrev pub invariant-loop-k : goal.invariant-loop-k
+invariant-loop-k l =
+    (l.k ≤ 10) × (length l.groups ≡ 10) × (length l.buffer ≡ 80) × (l.buffer ≡ each (byte_at (record { groups = l.groups })) 0 (8 * l.k) ++ drop (8 * l.k) l.initial.buffer)
+
+abbrev pub decreases-loop-k : goal.decreases-loop-k
+decreases-loop-k l = 10 - l.k
