@@ -15,7 +15,7 @@ use Rattle.detectors.specs.contracts.Bank.{the_type}
 
 -- ---- what owning a bank tells of its array
 pub ten_channels : (bank : Bank) (values : List Val) → Owned (row the_type) bank values → length bank.channels ≡ 10
-ten_channels bank values owned = simp length-map at owned.1.1.0.1.0.1
+ten_channels bank values owned = owned.1.1.0.1.0.1
 
 -- ---- number 8: whether channel k is in range
 abbrev pub channel_flag : Settings → Bank → ℕ → Bool

@@ -8,18 +8,18 @@ use Rattle.writing.proofs.writer.write.Goals as goal
 pub returns-then-buffer-ne80 : goal.returns-then-buffer-ne80
 returns-then-buffer-ne80 c =
     let is = write_not_whole _ _ c.if-buffer-ne80.true in
-    (c.refused.ensures ∙ is, written_refused _ _ _ is (λ e. omega arith))
+    record { value = c.refused.ensures ∙ is; buffer_after = written_refused _ _ _ is (λ e. omega arith) }
 
 pub returns-then-verdict-ne0 : goal.returns-then-verdict-ne0
 returns-then-verdict-ne0 c =
     let is = c.settings_verdict-verdict.ensures ∙ write_whole _ _ c.if-buffer-ne80.false in
-    (is, written_refused _ _ _ is c.if-verdict-ne0.true)
+    record { value = is; buffer_after = written_refused _ _ _ is c.if-verdict-ne0.true }
 
 pub write_groups-requires : goal.write_groups-requires
 write_groups-requires c =
-    (c.if-buffer-ne80.false, rw c.settings_verdict-verdict.ensures at c.if-verdict-ne0.false)
+    record { buffer_len = c.if-buffer-ne80.false; settings_value = rw c.settings_verdict-verdict.ensures at c.if-verdict-ne0.false }
 
 pub returns : goal.returns
 returns c =
     let is = c.settings_verdict-verdict.ensures ∙ write_whole _ _ c.if-buffer-ne80.false in
-    (is, c.write_groups.ensures ∙ written_accepted _ _ _ is c.if-verdict-ne0.false)
+    record { value = is; buffer_after = c.write_groups.ensures ∙ written_accepted _ _ _ is c.if-verdict-ne0.false }

@@ -2,12 +2,8 @@
 use mathlib.Core.Path.{refl}
 use Rattle.records.specs.Lists.{each}
 use Rattle.detectors.specs.Bank.{start_bank}
-use Rattle.detectors.proofs.advancing.start.Statement.{statement}
-use Rattle.detectors.proofs.advancing.start.Tie as tie
+use Rattle.detectors.proofs.advancing.start.Goals as goal
 
-returns : tie.Need-returns
+pub returns : goal.returns
 unfolding start_bank each
 returns c = refl
-
-pub start_spec : {M : Type 1} → statement M
-start_spec = tie.close (tie.spec returns)

@@ -1,0 +1,25 @@
+-- `detectors::advancing::advance` meets its contract. The loop's invariant: the first k channels have run, the others stand as they came, and the words have their bits.
+-- The measure is how many channels are left. Assumes nothing.
+use Prim.Native.Nat.{◌-◌, ◌≤◌, ◌<◌}
+use mathlib.Core.Path.{◌≡◌, refl, ap}
+use mathlib.Core.List.{◌++◌}
+use native.Mathlib.Omega.{arith}
+use borrow.Author.Rules.{rules}
+use lib.ListN.{length, drop}
+use Rattle.records.specs.Lists.{each}
+use Rattle.records.specs.Words.{word_of}
+use Rattle.records.proofs.ListLaws.{filled_more}
+use Rattle.records.proofs.WordLaws.{added_more, added_fits}
+use Rattle.channels.specs.declared.Ran.{Ran}
+use Rattle.detectors.proofs.BankLaws.{ten_channels}
+use Rattle.detectors.proofs.TickLaws.{ran_at, ran_all}
+use Rattle.detectors.proofs.advancing.advance.Given as goal
+
+abbrev pub invariant-loop-k : goal.invariant-loop-k
+invariant-loop-k l =
+    (l.k ≤ 10)
+    × ((l.after.channels ≡ each (λ j. (ran_at l.settings l.frames l.bank l.n j).channel) 0 l.k ++ drop l.k l.bank.channels)
+    × ((l.faults ≡ word_of (λ j. (ran_at l.settings l.frames l.bank l.n j).fault) l.k) × (l.warnings ≡ word_of (λ j. (ran_at l.settings l.frames l.bank l.n j).warning) l.k)))
+
+abbrev pub decreases-loop-k : goal.decreases-loop-k
+decreases-loop-k l = 10 - l.k

@@ -1,0 +1,14 @@
+-- `sheets::tags::look_up` meets its contract. The invariant: the steps from k on give the whole look-up. Assumes nothing.
+use Prim.Native.Nat.{◌-◌}
+use mathlib.Core.Path.{◌≡◌, sym, ◌∙◌}
+use native.Mathlib.Omega.{arith}
+use borrow.Author.Rules.{rules}
+use Rattle.records.proofs.TagSearch.{LookedUp, looked_none, looked_pass, looked_hit, looked_end}
+use Rattle.steps.specs.Steps.{step_count}
+use Rattle.sheets.proofs.tags.look_up.Given as goal
+
+abbrev pub invariant-loop-k : goal.invariant-loop-k
+invariant-loop-k l = LookedUp 16 l.sheet l.wanted (step_count l.sheet) l.k × (l.steps ≡ step_count l.sheet)
+
+abbrev pub decreases-loop-k : goal.decreases-loop-k
+decreases-loop-k l = l.steps - l.k

@@ -1,0 +1,33 @@
+-- `sheets::tags::repeats_verdict` meets its contract. The outer invariant: the steps from `later` on give the whole verdict; the inner one: no step
+-- before `earlier` has the tag of `later`. Left by the label, an earlier step has it. Assumes nothing.
+-- no earlier step has the tag of step j
+use Prim.Native.Nat.{ℕ, ◌-◌, ◌≤◌}
+use mathlib.Core.Path.{◌≡◌, refl, ap, sym, ◌∙◌}
+use mathlib.Core.Logic.{⊎_elim}
+use mathlib.Core.Bool.{Bool, false, not}
+use mathlib.Core.List.{List}
+use native.Mathlib.Omega.{arith}
+use borrow.Author.Rules.{rules}
+use borrow.Author.Tests.{eq-eqb, ne_eqb}
+use Rattle.records.specs.Tags.{tag_at, used_before, repeats}
+use Rattle.records.specs.Verdicts.{refused_unless}
+use Rattle.records.proofs.VerdictLaws.{chain_one, Searched, searched_none, flag_pass, flag_hit, searched_end}
+use Rattle.records.proofs.TagSearch.{used_none, used_pass}
+use Rattle.records.proofs.TagLaws.{some_repeats}
+use Rattle.sheets.specs.Sheets.{repeats_verdict}
+use Rattle.sheets.proofs.tags.repeats_verdict.Given as goal
+
+abbrev pub fresh : List ℕ → ℕ → Bool
+fresh sheet j = not (repeats 16 sheet j)
+
+abbrev pub invariant-loop-earlier : goal.invariant-loop-earlier
+invariant-loop-earlier l = (l.earlier ≤ l.later) × (used_before 16 l.sheet (tag_at 16 l.sheet l.later) l.earlier ≡ false)
+
+abbrev pub decreases-loop-earlier : goal.decreases-loop-earlier
+decreases-loop-earlier l = l.later - l.earlier
+
+abbrev pub invariant-search : goal.invariant-search
+invariant-search l = Searched (repeats_verdict l.sheet) (λ j. refused_unless (fresh l.sheet j) 5 j) l.steps l.later
+
+abbrev pub decreases-search : goal.decreases-search
+decreases-search l = l.steps - l.later

@@ -1,0 +1,16 @@
+-- `sheets::verdict::unknown_verdict` meets its contract. The invariant: the steps from k on give the whole verdict. Assumes nothing.
+use Prim.Native.Nat.{◌-◌}
+use mathlib.Core.Path.{refl, sym, ◌∙◌}
+use native.Mathlib.Omega.{arith}
+use borrow.Author.Rules.{rules}
+use borrow.Author.Tests.{not-true, not-false}
+use Rattle.records.specs.Verdicts.{refused_unless}
+use Rattle.records.proofs.VerdictLaws.{Searched, searched_none, flag_pass, flag_hit, searched_end}
+use Rattle.sheets.specs.Sheets.{jumps_known, unknown_verdict}
+use Rattle.sheets.proofs.verdict.unknown_verdict.Given as goal
+
+abbrev pub invariant-loop-k : goal.invariant-loop-k
+invariant-loop-k l = Searched (unknown_verdict l.sheet) (λ j. refused_unless (jumps_known l.sheet j) 6 j) l.steps l.k
+
+abbrev pub decreases-loop-k : goal.decreases-loop-k
+decreases-loop-k l = l.steps - l.k
