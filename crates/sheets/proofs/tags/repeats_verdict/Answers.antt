@@ -2,6 +2,7 @@
 -- before `earlier` has the tag of `later`. Left by the label, an earlier step has it. Assumes nothing.
 -- no earlier step has the tag of step j
 use Prim.Native.Nat.{ℕ, ◌-◌, ◌≤◌}
+use Rattle.std.specs.Bool.{◌==◌}
 use mathlib.Core.Path.{◌≡◌, refl, ap, sym, ◌∙◌}
 use mathlib.Core.Logic.{⊎_elim}
 use mathlib.Core.Bool.{Bool, false, not}
@@ -16,6 +17,7 @@ use Rattle.records.proofs.TagSearch.{used_none, used_pass}
 use Rattle.records.proofs.TagLaws.{some_repeats}
 use Rattle.sheets.specs.Sheets.{repeats_verdict}
 use Rattle.sheets.proofs.tags.repeats_verdict.Invariants.{fresh}
+use Rattle.sheets.proofs.tags.repeats_verdict.Goals.{else-search-test, then-search-test+then-loop-earlier-test+then-tag}
 use Rattle.sheets.proofs.tags.repeats_verdict.Goals as goal
 
 pub search-init : goal.search-init
@@ -38,4 +40,15 @@ search-preserved c =
     flag_pass (fresh _) 5 (λ j. j) c.search.invariant c.search-test.true (ap not (sym (ap (used_before 16 _ _) all) ∙ c.loop-earlier.invariant.1))
 
 pub returns : goal.returns
-returns c = ?
+returns c =
+    let sheet = c.args.sheet.now in
+    let steps = c.step_count-steps.result in
+    let later = c.search.later in
+    chain_one c.unless.ensures c.accepted.ensures
+    ∙ (elim c.search-test.branch as (λ _. refused_unless (later == steps) 5 later ≡ repeats_verdict sheet) [
+      | else-search-test w ↦ ap (λ (b : Bool). refused_unless b 5 later) (eq-eqb later steps (omega arith)) ∙ searched_end c.search.invariant w.search-test.false
+      | then-search-test+then-loop-earlier-test+then-tag w ↦
+          ap (λ (b : Bool). refused_unless b 5 later) (ne_eqb later steps (omega arith))
+          ∙ flag_hit (fresh sheet) 5 (λ j. j) c.search.invariant w.search-test.true (λ z. omega arith)
+          (ap not (some_repeats 16 sheet w.loop-earlier.earlier later w.loop-earlier-test.true (sym w.tag.ensures ∙ w.if-tag.true ∙ w.tag-in-loop-earlier.ensures)))
+    ])
