@@ -10,24 +10,17 @@ use Rattle.records.proofs.VerdictLaws.{first_tested, first_last}
 use Rattle.machine.specs.declared.Node.{Node}
 use Rattle.machine.specs.declared.Standing.{Standing}
 use Rattle.engine.specs.Engine.{standing}
-use Rattle.engine.proofs.step_standing.Statement.{statement}
-use Rattle.engine.proofs.step_standing.Tie as tie
+use Rattle.engine.proofs.step_standing.Goals as goal
 
 abbrev stood : Verdict → Node → Standing
 stood verdict node = record { verdict = verdict; node = node }
 
-returns : tie.Need-returns
+pub returns : goal.returns
 unfolding standing
 returns c =
-    let tested = c.before in
-    let k = tested.before.before.before.before.args.k in
+    let k = c.args.k in
     ap₂ stood
-    (first_tested _ tested.unless.ensures tested.before.before.sheet_verdict_lem.ensures
-    (ap (λ (steps : ℕ). refused_unless (ltb k steps) 8 0) tested.before.step_count.ensures
+    (first_tested _ c.unless-verdict.ensures c.sheet_verdict.ensures
+    (ap (λ (steps : ℕ). refused_unless (ltb k steps) 8 0) c.step_count.ensures
     ∙ sym (first_last (ltb k _) 8 0 (λ z. omega arith))))
-    c.node_at.ensures
-
-pub step-standing-spec : {M : Type 1} → statement M
-step-standing-spec =
-    tie.close
-    (tie.spec (λ c κs. search rules) (λ c κs. search rules) (λ c κs. search rules) (λ c κs. search rules) returns)
+    c.node_at-node.ensures
