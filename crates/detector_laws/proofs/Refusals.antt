@@ -61,6 +61,19 @@ abbrev pub tests : ℕ → Settings → Bank → List ℕ → List Verdict
 tests n settings bank frames =
     refused_unless (eqb (length frames) (11 * n)) wrong_length 0 ∷ settings_verdict settings ∷ bank_verdict settings bank ∷ levels_verdict n frames ∷ []
 
+-- four verdicts accept
+abbrev FourPass : Verdict → Verdict → Verdict → Verdict → Type 0
+FourPass v w x y = (v.number ≡ 0) × (w.number ≡ 0) × (x.number ≡ 0) × (y.number ≡ 0)
+
+-- each does, where the first refusal of the four is none
+four_pass : (v w x y : Verdict) → (first_refusal (v ∷ w ∷ x ∷ y ∷ [])).number ≡ 0 → FourPass v w x y
+four_pass v w x y e =
+    elim (all_pass (v ∷ w ∷ x ∷ y ∷ []) e) [ p also q also r also s also none ↦ (p, q, r, s) ]
+
+-- and the other way
+four_passed : (v w x y : Verdict) → FourPass v w x y → (first_refusal (v ∷ w ∷ x ∷ y ∷ [])).number ≡ 0
+four_passed v w x y h = all_zero (v ∷ w ∷ x ∷ y ∷ []) (h.0 also h.1 also h.2 also h.3 also none)
+
 module _ (n : ℕ) (settings : Settings) (bank : Bank) (frames : List ℕ) where
   -- ---- the answers
   -- a refused call gives back the bank it received and zero words, with the verdict
@@ -98,22 +111,20 @@ module _ (n : ℕ) (settings : Settings) (bank : Bank) (frames : List ℕ) where
   unfolding frames_verdict
   verdict_exactly = (
     λ e.
-        elim (all_pass _ e) [
-          | right also good also held also low also none ↦
-              record {
-                length_right = unless_passed (eq_test _ _) wrong_length 0 (suc-ne-zero 0) right;
-                settings_accepted = good;
-                bank_accepted = bank_zero settings bank held;
-                levels_low = accepted_levels n frames low;
-              }
-        ],
+        let passed = four_pass _ _ _ _ e in
+        record {
+          length_right = unless_passed (eq_test _ _) wrong_length 0 (suc-ne-zero 0) passed.0;
+          settings_accepted = passed.1;
+          bank_accepted = bank_zero settings bank passed.2;
+          levels_low = accepted_levels n frames passed.3;
+        },
     λ h.
-        all_zero _ (
-        unless_passes (eq_test _ _) wrong_length 0 h.length_right also
-        h.settings_accepted also
-        ap number_of h.bank_accepted also
-        ap number_of (levels_accepted n frames h.levels_low) also
-        none),
+        four_passed _ _ _ _ (
+          unless_passes (eq_test _ _) wrong_length 0 h.length_right,
+          h.settings_accepted,
+          ap number_of h.bank_accepted,
+          ap number_of (levels_accepted n frames h.levels_low),
+        ),
   )
 
   -- a call is accepted exactly when its input is acceptable

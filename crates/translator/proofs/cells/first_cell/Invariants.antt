@@ -1,0 +1,15 @@
+-- `translator::cells::first_cell` meets its contract. The invariant: the sum so far is the first cell of step i, and at most 17 for each step. Assumes nothing.
+use Prim.Native.Nat.{◌+◌, ◌-◌, ◌*◌, ◌≤◌}
+use mathlib.Core.Path.{◌≡◌, ap, sym, ◌∙◌}
+use native.Mathlib.Omega.{arith}
+use native.Mathlib.Numerals.{add-one}
+use borrow.Author.Rules.{rules}
+use Rattle.translator.specs.Translation.{cells_of, first_cell}
+use Rattle.translator.proofs.CellCounts.{first_zero, first_suc}
+use Rattle.translator.proofs.cells.first_cell.Given as goal
+
+abbrev pub invariant-loop-i : goal.invariant-loop-i
+invariant-loop-i l = (l.first ≡ first_cell l.sheet l.i) × (l.first ≤ 17 * l.i) × (l.i ≤ l.step)
+
+abbrev pub decreases-loop-i : goal.decreases-loop-i
+decreases-loop-i l = l.step - l.i
