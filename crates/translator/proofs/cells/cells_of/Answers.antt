@@ -7,4 +7,4 @@ use Rattle.translator.proofs.cells.cells_of.Goals as goal
 
 pub returns : goal.returns
 unfolding step_at
-returns c = (c.cells_for.ensures.value ∙ ap cells_for c.word_at.ensures, c.cells_for.ensures.upper_bound)
+returns c = record { value = c.cells_for.ensures.value ∙ ap cells_for c.word_at.ensures; upper_bound = c.cells_for.ensures.upper_bound }

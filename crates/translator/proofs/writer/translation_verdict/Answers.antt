@@ -14,7 +14,7 @@ pub returns : goal.returns
 unfolding cell_total chained or_else
 returns c =
     let room = c.args.room in
-    let total = c.first_Cell.ensures ∙ ap (first_cell _) c.step_count.ensures in
+    let total = c.first_cell-cells.ensures ∙ ap (first_cell _) c.step_count.ensures in
     first_chained _ _ (unless_accepted (leb (12 * first_cell _ _) room) 10 0 (λ z. omega arith))
     (chain_more c.unless-2.ensures
     (chain_more c.unless.ensures c.sheet_verdict.ensures (ap (λ (n : ℕ). refused_unless (leb n 63) 7 0) total))
