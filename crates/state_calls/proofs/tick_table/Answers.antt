@@ -6,9 +6,7 @@ use Rattle.state_calls.proofs.tick_table.Goals as goal
 
 pub returns : goal.returns
 returns c =
-    let a = c.before.before.args in
+    let a = c.args in
     let told = c.write_after.ensures in
-    ticked_by table_form a.table.now a.state.now c.state_from-received.ensures c.bytes_verdict.ensures c.answer.ensures a.word
-    c.tick_table-ticked.ensures
-    told.0
-    told.1
+    let all = ticked_by table_form a.table.now a.state.now c.state_from-received.ensures c.bytes_verdict.ensures c.answer.ensures a.word c.tick_table-ticked.ensures told.value told.bytes_after in
+    record { value = all.0; state_after = all.1 }
