@@ -1,5 +1,5 @@
 // The library for C: calls on numbers and byte slices, each answer packed into one number.
-// `include/wrackbasket.h` declares them and explains the bits.
+// `capi_c` exports them; `include/wrackbasket.h` declares them and explains the bits.
 //
 // None of the calls has a `requires`. A refusal leaves every lent byte.
 #![tactic(auto)]
@@ -16,8 +16,7 @@ use packing::{packed, packed_tick, packed_words};
 use reading::read;
 
 // Translates a sheet into the lent table.
-#[unsafe(no_mangle)]
-pub extern "C" fn wrackbasket_translate(sheet: &[u8], table: &mut [u8]) -> u32
+pub fn wrackbasket_translate(sheet: &[u8], table: &mut [u8]) -> u32
     ensures value { result ≡ packed_translation (translation sheet.now table.old) }
     ensures table_after { table.new ≡ translated sheet.now table.old }
 {
@@ -26,8 +25,7 @@ pub extern "C" fn wrackbasket_translate(sheet: &[u8], table: &mut [u8]) -> u32
 }
 
 // Writes the normal bytes of an image into the lent buffer of eighty bytes.
-#[unsafe(no_mangle)]
-pub extern "C" fn wrackbasket_normal(image: &[u8], buffer: &mut [u8]) -> u32
+pub fn wrackbasket_normal(image: &[u8], buffer: &mut [u8]) -> u32
     ensures value { result ≡ packed_verdict (normal_verdict image.now buffer.old) }
     ensures buffer_after { buffer.new ≡ normal_written image.now buffer.old }
 {
@@ -39,8 +37,7 @@ pub extern "C" fn wrackbasket_normal(image: &[u8], buffer: &mut [u8]) -> u32
 }
 
 // The start's bytes into the eight that are lent, whatever stood there.
-#[unsafe(no_mangle)]
-pub extern "C" fn wrackbasket_start(state: &mut [u8]) -> u32
+pub fn wrackbasket_start(state: &mut [u8]) -> u32
     ensures value { result ≡ packed_verdict (start_verdict state.old) }
     ensures state_after { state.new ≡ start_written state.old }
 {
@@ -48,8 +45,7 @@ pub extern "C" fn wrackbasket_start(state: &mut [u8]) -> u32
 }
 
 // One tick of the engine on a table, from the state in the eight bytes, which take the next state.
-#[unsafe(no_mangle)]
-pub extern "C" fn wrackbasket_tick_table(table: &[u8], state: &mut [u8], word: u16) -> u64
+pub fn wrackbasket_tick_table(table: &[u8], state: &mut [u8], word: u16) -> u64
     ensures value { result ≡ packed_tick (ticked_on table_form table.now state.old word) }
     ensures state_after { state.new ≡ state_after (ticked_on table_form table.now state.old word) state.old }
 {
@@ -57,8 +53,7 @@ pub extern "C" fn wrackbasket_tick_table(table: &[u8], state: &mut [u8], word: u
 }
 
 // One tick of the engine on a sheet, from the state in the eight bytes, which take the next state.
-#[unsafe(no_mangle)]
-pub extern "C" fn wrackbasket_tick_sheet(sheet: &[u8], state: &mut [u8], word: u16) -> u64
+pub fn wrackbasket_tick_sheet(sheet: &[u8], state: &mut [u8], word: u16) -> u64
     ensures value { result ≡ packed_tick (ticked_on sheet_form sheet.now state.old word) }
     ensures state_after { state.new ≡ state_after (ticked_on sheet_form sheet.now state.old word) state.old }
 {
@@ -66,16 +61,14 @@ pub extern "C" fn wrackbasket_tick_sheet(sheet: &[u8], state: &mut [u8], word: u
 }
 
 // What shows on a table at the state in the eight bytes.
-#[unsafe(no_mangle)]
-pub extern "C" fn wrackbasket_show_table(table: &[u8], state: &[u8]) -> u64
+pub fn wrackbasket_show_table(table: &[u8], state: &[u8]) -> u64
     ensures { result ≡ packed_tick (shown_on table_form table.now state.now) }
 {
     packed_tick(state_calls::show_table(table, state))
 }
 
 // What shows on a sheet at the state in the eight bytes.
-#[unsafe(no_mangle)]
-pub extern "C" fn wrackbasket_show_sheet(sheet: &[u8], state: &[u8]) -> u64
+pub fn wrackbasket_show_sheet(sheet: &[u8], state: &[u8]) -> u64
     ensures { result ≡ packed_tick (shown_on sheet_form sheet.now state.now) }
 {
     packed_tick(state_calls::show_sheet(sheet, state))
@@ -83,8 +76,7 @@ pub extern "C" fn wrackbasket_show_sheet(sheet: &[u8], state: &[u8]) -> u64
 
 // The detectors under an image's settings, from the start over a recording of whole engine ticks: the
 // words of the last.
-#[unsafe(no_mangle)]
-pub extern "C" fn wrackbasket_detect(image: &[u8], recording: &[u8]) -> u64
+pub fn wrackbasket_detect(image: &[u8], recording: &[u8]) -> u64
     ensures { result ≡ packed_words (recorded image.now recording.now) }
 {
     packed_words(recordings::recorded(image, recording))

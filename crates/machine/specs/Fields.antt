@@ -1,7 +1,5 @@
 -- The ranges that a step and a cell share, and the kinds of fault that a field may have. Assumes nothing.
-use Rattle.std.specs.Prelude.{ℕ, max, Bool, cond, not, ◌&&◌, ◌||◌, ltb, leb, eqb}
-use Rattle.records.specs.Verdicts.{refused_unless}
-use Rattle.records.specs.declared.Verdict.{Verdict}
+use Rattle.std.specs.Prelude.{ℕ, max, Bool, not, ◌||◌, ltb, leb, eqb}
 
 -- ---- ranges: "the rest as in a sheet"
 

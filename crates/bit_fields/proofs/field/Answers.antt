@@ -1,6 +1,5 @@
 -- `bit_fields::field` meets its contract by the laws of a field. Assumes nothing.
 use mathlib.Core.Path.{ap, ◌∙◌}
-use borrow.Author.Rules.{rules}
 use lib.Bits.{bit_and}
 use Prim.Native.Nat.{◌/◌, ◌^◌}
 use Rattle.records.proofs.BitLaws.{bits_past, bits_wide, bits_masked}

@@ -1,7 +1,6 @@
 -- `bit_fields::join` meets its contract by the laws of a join. Assumes nothing.
 use Prim.Native.Nat.{ℕ, ◌*◌, ◌%◌, ◌^◌}
 use mathlib.Core.Path.{ap, ◌∙◌}
-use borrow.Author.Rules.{rules}
 use lib.Bits.{bit_and, bit_or}
 use Rattle.records.proofs.BitLaws.{joined_past, joined_masked}
 use Rattle.bit_fields.proofs.join.Goals as goal

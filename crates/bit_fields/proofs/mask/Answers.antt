@@ -3,7 +3,6 @@ use Prim.Native.Nat.{ℕ, ◌-◌}
 use mathlib.Core.Path.{ap}
 use native.Mathlib.Omega.{arith}
 use lib.Pow.{pow_pos}
-use borrow.Author.Rules.{rules}
 use Rattle.records.proofs.BitLaws.{one_shifted}
 use Rattle.bit_fields.proofs.mask.Goals as goal
 

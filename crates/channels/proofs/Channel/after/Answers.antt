@@ -1,6 +1,5 @@
 -- `channels::sampling::Channel::after` meets its contract: each part is made by the function of its definition. Assumes nothing.
 use mathlib.Core.Bool.{xor}
-use borrow.Author.Rules.{rules}
 use Rattle.channels.specs.Channel.{channel_after, logic_after}
 use Rattle.channels.proofs.Channel.after.Goals as goal
 

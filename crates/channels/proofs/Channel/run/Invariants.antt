@@ -1,11 +1,8 @@
 -- `channels::sampling::Channel::run` meets its contract. The loop's invariant: `after` is the channel after i frames, and `before` after one less.
 -- The measure is how many frames are left. Assumes nothing.
-use Prim.Native.Nat.{◌+◌, ◌-◌, ◌≤◌}
-use mathlib.Core.Path.{◌≡◌, refl, ap, ◌∙◌}
-use native.Mathlib.Omega.{arith}
-use borrow.Author.Rules.{rules}
-use Rattle.channels.specs.Run.{channel_over, ran_over}
-use Rattle.channels.proofs.FrameLaws.{over_more}
+use Prim.Native.Nat.{◌-◌, ◌≤◌}
+use mathlib.Core.Path.{◌≡◌}
+use Rattle.channels.specs.Run.{channel_over}
 use Rattle.channels.proofs.Channel.run.Given as goal
 
 abbrev pub invariant-loop-i : goal.invariant-loop-i

@@ -1,6 +1,5 @@
 -- `channels::frame::frame_byte` meets its contract: a frame has eleven bytes, and past the end of the frames there is none. Assumes nothing.
 use mathlib.Core.Path.{◌∙◌}
-use borrow.Author.Rules.{rules}
 use native.Mathlib.Omega.{arith}
 use Rattle.channels.proofs.FrameLaws.{past_frame, past_frames, in_frame}
 use Rattle.channels.proofs.frame.frame_byte.Goals as goal

@@ -1,5 +1,4 @@
 -- `channels::frame::sample` meets its contract: the byte that is measured, and the level. Assumes nothing.
-use borrow.Author.Rules.{rules}
 use Rattle.channels.specs.Frame.{sample_at}
 use Rattle.channels.proofs.frame.sample.Goals as goal
 

@@ -1,5 +1,4 @@
 -- `channels::sampling::fault_bit` meets its contract: the input kind picks between the filtered analog state and the logic fault. Assumes nothing.
-use borrow.Author.Rules.{rules}
 use Rattle.channels.specs.Channel.{fault_bit}
 use Rattle.channels.proofs.sampling.fault_bit.Goals as goal
 

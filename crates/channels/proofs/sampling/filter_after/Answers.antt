@@ -1,5 +1,4 @@
 -- `channels::sampling::filter_after` meets its contract: its tests are the definition's. Assumes nothing.
-use borrow.Author.Rules.{rules}
 use borrow.Author.Tests.{le-leb, lt-leb}
 use Rattle.channels.specs.Channel.{filter_after, ticks}
 use Rattle.channels.proofs.sampling.filter_after.Goals as goal

@@ -2,7 +2,6 @@
 use Prim.Native.Nat.{ℕ, ◌-◌}
 use mathlib.Core.Path.{◌≡◌, ◌∙◌, ap, sym}
 use native.Mathlib.Omega.{arith}
-use borrow.Author.Rules.{rules}
 use Rattle.channels.proofs.ChannelLaws.{left_on_edge, left_on_level}
 use Rattle.channels.proofs.sampling.left_after.Goals as goal
 

@@ -1,7 +1,6 @@
 -- `channels::sampling::logic_fault` meets its contract: its test is the definition's. Assumes nothing.
 use mathlib.Core.Path.{◌∙◌, ap, sym}
 use lib.Dec.{ltb}
-use borrow.Author.Rules.{rules}
 use Rattle.channels.proofs.ChannelLaws.{fault_on_edge, fault_on_level}
 use Rattle.channels.proofs.sampling.logic_fault.Goals as goal
 

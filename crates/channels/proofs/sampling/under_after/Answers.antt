@@ -2,7 +2,6 @@
 use Prim.Native.Nat.{◌+◌, min}
 use mathlib.Core.Path.{◌≡◌}
 use native.Mathlib.Omega.{arith}
-use borrow.Author.Rules.{rules}
 use Rattle.channels.specs.Channel.{under_after, under_release}
 use Rattle.channels.proofs.sampling.under_after.Goals as goal
 

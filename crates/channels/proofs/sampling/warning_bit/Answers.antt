@@ -1,5 +1,4 @@
 -- `channels::sampling::warning_bit` meets its contract: the input kind picks the filtered analog state or nothing. Assumes nothing.
-use borrow.Author.Rules.{rules}
 use Rattle.channels.specs.Channel.{warning_bit}
 use Rattle.channels.proofs.sampling.warning_bit.Goals as goal
 

@@ -1,11 +1,9 @@
 -- `machine::exits::due` meets its contract: with a timeout, elapsed + 1 reaches it where elapsed reaches one less. Assumes nothing.
-use Prim.Native.Nat.{ℕ, suc, ◌+◌, ◌-◌, ◌≤◌}
-use mathlib.Core.Path.{◌≡◌, ◌∙◌, ap, sym}
-use native.Mathlib.Nat.{not-le_of_lt}
+use Prim.Native.Nat.{ℕ, ◌+◌, ◌-◌}
+use mathlib.Core.Path.{◌≡◌, ◌∙◌, sym}
 use native.Mathlib.Omega.{arith}
 use native.Mathlib.Decide.{dec_le}
 use lib.Dec.{leb}
-use borrow.Author.Rules.{rules}
 use borrow.Author.Tests.{eq-eqb, ne_eqb, le-leb, lt-leb}
 use Rattle.machine.specs.Machine.{due}
 use Rattle.machine.proofs.exits.due.Goals as goal

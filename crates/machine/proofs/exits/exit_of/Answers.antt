@@ -1,6 +1,5 @@
 -- `machine::exits::exit_of` meets its contract: each return stands where the tests lead to its exit. Assumes nothing.
 use mathlib.Core.Path.{ap, sym, ◌∙◌}
-use borrow.Author.Rules.{rules}
 use borrow.Author.Tests.{eq-eqb, ne_eqb}
 use mathlib.Core.Bool.{not}
 use Rattle.machine.specs.Machine.{shares}

@@ -1,5 +1,5 @@
 -- `machine::moving::elapsed_in_range` meets its contract: the larger of 1 and the timeout. Assumes nothing.
-use Prim.Native.Nat.{ℕ, max}
+use Prim.Native.Nat.{max}
 use mathlib.Core.Path.{◌≡◌, ap}
 use native.Mathlib.Omega.{arith}
 use lib.Dec.{ltb}

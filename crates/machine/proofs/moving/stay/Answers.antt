@@ -1,10 +1,9 @@
 -- `machine::moving::stay` meets its contract: below a timeout that is not due there is room for one tick more. Assumes nothing.
-use Prim.Native.Nat.{ℕ, ◌+◌, ◌<◌, ◌≤◌}
+use Prim.Native.Nat.{ℕ, ◌+◌, ◌<◌}
 use mathlib.Core.Path.{◌≡◌}
 use mathlib.Core.Bool.{false}
 use native.Mathlib.Omega.{arith}
 use borrow.Author.Tests.{eq-eqb, ne_eqb, leb-false}
-use lib.Dec.{leb}
 use Rattle.machine.specs.declared.Node.{Node}
 use Rattle.machine.specs.Machine.{due, stay}
 use Rattle.machine.proofs.moving.stay.Goals as goal

@@ -1,6 +1,5 @@
 -- `machine::moving::tick` meets its contract: each arm takes the exit that was found. Assumes nothing.
 use mathlib.Core.Path.{sym, ◌∙◌}
-use borrow.Author.Rules.{rules}
 use Rattle.machine.proofs.ExitLaws.{stay_not_due, takes}
 use Rattle.machine.proofs.moving.tick.Goals as goal
 

@@ -1,6 +1,5 @@
 -- `reading::codes::input` meets its contract: a field of two bits is an index below four, and of one bit below two. Assumes nothing.
 use borrow.Author.Tests.{lt-ltb, le-ltb, eq-eqb, ne_eqb}
-use borrow.Author.Rules.{rules}
 use Rattle.records.proofs.BitLaws.{bits_lt}
 use Rattle.records.proofs.ListLaws.{get_d_default}
 use Rattle.image.specs.Codes.{high_ranges, functions}

@@ -1,6 +1,5 @@
 -- `reading::reader::byte_verdict` meets its contract: its two tests are the definition's, in its order. Assumes nothing.
 use native.Mathlib.Omega.{arith}
-use borrow.Author.Rules.{rules}
 use Rattle.records.specs.Numbers.{unprinted}
 use Rattle.records.proofs.VerdictLaws.{first_chained, chained, chain_more, unless_accepted}
 use Rattle.image.specs.Reading.{usable, printed, byte_verdict}

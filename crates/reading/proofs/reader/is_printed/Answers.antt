@@ -1,6 +1,5 @@
 -- `reading::reader::is_printed` meets its contract: its tests are the definition's. Assumes nothing.
 use borrow.Author.Tests.{eq-eqb, ne_eqb}
-use borrow.Author.Rules.{rules}
 use Rattle.image.specs.Reading.{printed}
 use Rattle.reading.proofs.reader.is_printed.Goals as goal
 

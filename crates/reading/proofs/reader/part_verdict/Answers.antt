@@ -1,10 +1,7 @@
 -- `reading::reader::part_verdict` meets its contract: what is left of the tests gives the whole answer. Assumes nothing.
-use Prim.Native.Nat.{◌-◌}
 use mathlib.Core.Path.{refl, ◌∙◌}
-use borrow.Author.Rules.{rules}
-use Rattle.records.proofs.VerdictLaws.{Searched, searched_none, searched_pass, searched_hit, searched_end}
+use Rattle.records.proofs.VerdictLaws.{searched_none, searched_pass, searched_hit, searched_end}
 use Rattle.image.specs.Reading.{part_verdict}
-use Rattle.reading.proofs.ReadingLaws.{part_test}
 use Rattle.reading.proofs.reader.part_verdict.Goals as goal
 
 pub loop-j-init : goal.loop-j-init

@@ -1,5 +1,4 @@
 -- `reading::reader::read` meets its contract: an accepted image is whole, so that its groups can be read. Assumes nothing.
-use borrow.Author.Rules.{rules}
 use borrow.Author.Tests.{eq-eqb, ne_eqb}
 use Rattle.image.specs.Reading.{reading}
 use Rattle.reading.proofs.ReadingLaws.{accepted_whole}

@@ -1,5 +1,4 @@
 -- `reading::reader::read_group` meets its contract: each byte goes to the reader of its own kind. Assumes nothing.
-use borrow.Author.Rules.{rules}
 use Rattle.records.proofs.BitLaws.{bits_lt}
 use Rattle.image.specs.Reading.{group_of}
 use Rattle.reading.proofs.reader.read_group.Goals as goal

@@ -1,15 +1,13 @@
 -- `reading::reader::read_groups` meets its contract: each turn reads one more group from its part. Assumes nothing.
-use Prim.Native.Nat.{◌-◌, ◌≤◌}
-use mathlib.Core.Path.{◌≡◌, refl, ap, ◌∙◌}
-use mathlib.Core.List.{List, ◌++◌}
+use mathlib.Core.Path.{refl, ap, ◌∙◌}
+use mathlib.Core.List.{List}
 use native.Mathlib.Omega.{arith}
-use borrow.Author.Rules.{rules}
-use lib.ListN.{length, drop}
+use lib.ListN.{length}
 use Rattle.records.specs.Lists.{each}
 use Rattle.records.proofs.ListLaws.{filled_more, filled_all}
 use Rattle.image.specs.Reading.{group_of, settings_of}
 use Rattle.image.specs.declared.Group.{Group}
-use Rattle.reading.proofs.ReadingLaws.{group_at, part_lent, part_length, zero_ten}
+use Rattle.reading.proofs.ReadingLaws.{part_lent, part_length, zero_ten}
 use Rattle.reading.proofs.reader.read_groups.Goals as goal
 
 pub loop-k-init : goal.loop-k-init

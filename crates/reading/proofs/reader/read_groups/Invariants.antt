@@ -1,15 +1,10 @@
 -- `reading::reader::read_groups` meets its contract: each turn reads one more group from its part. Assumes nothing.
 use Prim.Native.Nat.{◌-◌, ◌≤◌}
-use mathlib.Core.Path.{◌≡◌, refl, ap, ◌∙◌}
-use mathlib.Core.List.{List, ◌++◌}
-use native.Mathlib.Omega.{arith}
-use borrow.Author.Rules.{rules}
-use lib.ListN.{length, drop}
+use mathlib.Core.Path.{◌≡◌}
+use mathlib.Core.List.{◌++◌}
+use lib.ListN.{drop}
 use Rattle.records.specs.Lists.{each}
-use Rattle.records.proofs.ListLaws.{filled_more, filled_all}
-use Rattle.image.specs.Reading.{group_of, settings_of}
-use Rattle.image.specs.declared.Group.{Group}
-use Rattle.reading.proofs.ReadingLaws.{group_at, part_lent, part_length, zero_ten}
+use Rattle.reading.proofs.ReadingLaws.{group_at}
 use Rattle.reading.proofs.reader.read_groups.Given as goal
 
 abbrev pub invariant-loop-k : goal.invariant-loop-k

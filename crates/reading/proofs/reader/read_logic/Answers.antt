@@ -1,5 +1,4 @@
 -- `reading::reader::read_logic` meets its contract: a field is below its table's length. Assumes nothing.
-use borrow.Author.Rules.{rules}
 use borrow.Author.Tests.{le-leb, lt-leb}
 use Rattle.records.proofs.BitLaws.{bits_lt}
 use Rattle.image.specs.Reading.{logic_of}

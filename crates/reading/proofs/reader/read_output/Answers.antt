@@ -1,5 +1,4 @@
 -- `reading::reader::read_output` meets its contract: a field is below its table's length. Assumes nothing.
-use borrow.Author.Rules.{rules}
 use Rattle.records.proofs.BitLaws.{bits_lt}
 use Rattle.image.specs.Reading.{output_of}
 use Rattle.reading.proofs.reader.read_output.Goals as goal

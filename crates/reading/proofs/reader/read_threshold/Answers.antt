@@ -1,5 +1,4 @@
 -- `reading::reader::read_threshold` meets its contract: the field is the definition's. Assumes nothing.
-use borrow.Author.Rules.{rules}
 use Rattle.image.specs.Reading.{threshold_of}
 use Rattle.reading.proofs.reader.read_threshold.Goals as goal
 

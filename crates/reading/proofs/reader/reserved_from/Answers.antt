@@ -2,8 +2,6 @@
 use Prim.Native.Nat.{ℕ, ◌<◌}
 use mathlib.Core.Path.{◌≡◌, ap, ap₂, sym, subst, ◌∙◌}
 use mathlib.Core.Bool.{Bool, cond}
-use mathlib.Core.Logic.{⊎_elim}
-use borrow.Author.Rules.{rules}
 use borrow.Author.Tests.{eq-eqb, ne_eqb, le-leb, lt-leb}
 use lib.ListN.{get_or}
 use Rattle.image.specs.Groups.{is_vh, is_vx}

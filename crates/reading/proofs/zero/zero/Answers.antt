@@ -1,5 +1,4 @@
 -- `reading::zero::zero` meets its contract: code 0 of byte 5 is that of the group's own table. Assumes nothing.
-use borrow.Author.Rules.{rules}
 use Rattle.records.specs.Lists.{each}
 use Rattle.records.specs.Bits.{bits}
 use Rattle.image.specs.Reading.{zero_settings, zero_group, input_of}

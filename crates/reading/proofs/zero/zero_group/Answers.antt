@@ -1,5 +1,4 @@
 -- `reading::zero::zero_group` meets its contract: its fields are the definition's. Assumes nothing.
-use borrow.Author.Rules.{rules}
 use Rattle.image.specs.Reading.{zero_group_of}
 use Rattle.reading.proofs.zero.zero_group.Goals as goal
 

@@ -1,5 +1,4 @@
 -- `steps::decoding::step_at` meets its contract field by field. Assumes nothing.
-use borrow.Author.Rules.{rules}
 use Rattle.steps.specs.Steps.{step_at}
 use Rattle.steps.proofs.decoding.step_at.Goals as goal
 

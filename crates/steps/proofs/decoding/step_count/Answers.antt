@@ -1,6 +1,5 @@
 -- `steps::decoding::step_count` meets its contract: each branch is the smaller of the two. Assumes nothing.
 use native.Mathlib.Omega.{arith}
-use borrow.Author.Rules.{rules}
 use Rattle.steps.specs.Steps.{step_count}
 use Rattle.steps.proofs.decoding.step_count.Goals as goal
 

@@ -2,7 +2,6 @@
 use mathlib.Core.Bool.{not, ◌||◌}
 use lib.Dec.{eqb}
 use native.Mathlib.Omega.{arith}
-use borrow.Author.Rules.{rules}
 use Rattle.records.proofs.VerdictLaws.{first_chained, chained, unless_accepted}
 use Rattle.steps.specs.Steps.{jump_fault}
 use Rattle.steps.proofs.fields.jump_fault.Goals as goal

@@ -1,6 +1,5 @@
 -- `steps::fields::step_fault` meets its contract: its ten tests are the definition's, in their order. Assumes nothing.
 use mathlib.Core.Path.{refl}
-use borrow.Author.Rules.{rules}
 use Rattle.records.proofs.VerdictLaws.{first_chained, chained, chain_more, first_accepted}
 use Rattle.machine.specs.Fields.{outputs_in_range, mask_in_range, channel_in_range, level_in_range, level_allowed}
 use Rattle.steps.specs.Steps.{step_fault, jump_fault}

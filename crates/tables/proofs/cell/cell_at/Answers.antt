@@ -1,5 +1,4 @@
 -- `tables::cell::cell_at` meets its contract: each field is the word or the byte at its offset. Assumes nothing.
-use borrow.Author.Rules.{rules}
 use Rattle.tables.specs.Tables.{cell_at}
 use Rattle.tables.proofs.cell.cell_at.Goals as goal
 

@@ -2,7 +2,6 @@
 use Prim.Native.Nat.{ℕ}
 use mathlib.Core.Path.{ap, sym, ◌∙◌}
 use mathlib.Core.List.{List}
-use borrow.Author.Rules.{rules}
 use Rattle.records.specs.Lists.{copied}
 use Rattle.records.proofs.ListLaws.{copied_whole}
 use Rattle.tables.specs.Tables.{cell_bytes}

@@ -2,7 +2,6 @@
 use native.Mathlib.Omega.{arith}
 use lib.Dec.{leb}
 use mathlib.Core.Path.{refl}
-use borrow.Author.Rules.{rules}
 use Rattle.records.proofs.VerdictLaws.{first_chained, chained, chain_more, unless_accepted}
 use Rattle.machine.specs.Fields.{outputs_in_range, mask_in_range, channel_in_range, level_in_range, level_allowed}
 use Rattle.tables.specs.Tables.{cell_fault}

@@ -2,7 +2,6 @@
 use mathlib.Core.Bool.{◌||◌}
 use native.Mathlib.Omega.{arith}
 use lib.Dec.{eqb}
-use borrow.Author.Rules.{rules}
 use Rattle.records.proofs.VerdictLaws.{first_chained, chained, unless_accepted}
 use Rattle.tables.specs.Tables.{next_fault}
 use Rattle.tables.proofs.fields.next_fault.Goals as goal

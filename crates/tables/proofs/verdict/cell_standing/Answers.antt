@@ -3,7 +3,6 @@ use mathlib.Core.Path.{refl, ap, ap₂}
 use mathlib.Core.Bool.{Bool}
 use native.Mathlib.Omega.{arith}
 use lib.Dec.{eqb}
-use borrow.Author.Rules.{rules}
 use Rattle.records.specs.Verdicts.{refused_unless}
 use Rattle.records.specs.declared.Verdict.{Verdict}
 use Rattle.records.proofs.VerdictLaws.{first_chained, chained, chain_more, unless_accepted}

@@ -1,7 +1,6 @@
 -- `tables::verdict::fields_verdict` meets its contract: its test is the definition's, of the fault that it found. Assumes nothing.
 use mathlib.Core.Path.{ap, ◌∙◌}
 use lib.Dec.{eqb}
-use borrow.Author.Rules.{rules}
 use Rattle.records.specs.Verdicts.{refused_unless}
 use Rattle.records.specs.declared.Verdict.{Verdict}
 use Rattle.records.proofs.VerdictLaws.{chain_one}

@@ -1,11 +1,8 @@
 -- `words::copying::copy` meets its contract: each turn stores one more of the bytes. Assumes nothing.
-use Prim.Native.Nat.{◌-◌, ◌≤◌}
-use mathlib.Core.Path.{◌≡◌, refl, ◌∙◌}
-use mathlib.Core.List.{◌++◌}
+use mathlib.Core.Path.{refl, ◌∙◌}
 use native.Mathlib.Omega.{arith}
-use borrow.Author.Rules.{rules}
 use borrow.Author.Tests.{eq-eqb, ne_eqb}
-use lib.ListN.{length, drop, get_or, length-set}
+use lib.ListN.{length, length-set}
 use Rattle.records.specs.Lists.{each, copied}
 use Rattle.records.proofs.ListLaws.{filled_more, filled_all, each_elements}
 use Rattle.words.proofs.copying.copy.Goals as goal

@@ -2,7 +2,6 @@
 use Prim.Native.Nat.{ℕ, ◌%◌, ◌^◌}
 use mathlib.Core.Path.{◌∙◌, ap, sym}
 use native.Mathlib.Nat.{one-mul}
-use borrow.Author.Rules.{rules}
 use borrow.Author.Tests.{not-true, not-false}
 use Rattle.records.specs.Words.{bit_word}
 use Rattle.records.proofs.BitLaws.{shifted_past}

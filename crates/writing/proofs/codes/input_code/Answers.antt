@@ -1,6 +1,5 @@
 -- `writing::codes::input_code` meets its contract: each variant's test and code are the definition's. Assumes nothing.
 use mathlib.Core.Path.{ap, sym, ◌∙◌}
-use borrow.Author.Rules.{rules}
 use Rattle.image.specs.Codes.{input_code}
 use Rattle.writing.proofs.codes.input_code.Goals as goal
 

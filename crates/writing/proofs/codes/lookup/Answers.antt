@@ -1,10 +1,6 @@
 -- `writing::codes::lookup` meets its contract: what is left of the table gives the whole answer. Assumes nothing.
-use Prim.Native.Nat.{◌-◌, ◌≤◌}
-use mathlib.Core.Path.{◌≡◌, refl, sym, ◌∙◌}
+use mathlib.Core.Path.{refl, sym, ◌∙◌}
 use native.Mathlib.Omega.{arith}
-use borrow.Author.Rules.{rules}
-use lib.ListN.{length, drop}
-use Rattle.image.specs.Codes.{lookup_from, lookup}
 use Rattle.writing.proofs.CodeLaws.{lookup_hit, lookup_pass, lookup_end}
 use Rattle.writing.proofs.codes.lookup.Goals as goal
 

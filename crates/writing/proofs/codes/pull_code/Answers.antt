@@ -1,6 +1,5 @@
 -- `writing::codes::pull_code` meets its contract: each arm has the definition's code. Assumes nothing.
 use mathlib.Core.Path.{sym, ap}
-use borrow.Author.Rules.{rules}
 use Rattle.image.specs.Codes.{pull_code}
 use Rattle.writing.proofs.codes.pull_code.Goals as goal
 

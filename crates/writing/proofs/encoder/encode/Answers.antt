@@ -1,7 +1,6 @@
 -- `writing::encoder::encode` meets its contract: each early return is the refusal of the first byte that has no code, and past them all eight bytes have one.
 -- In the answers a place is named after what it learnt: `over` and `under` that a hysteresis fits, and `delay`, `five` and `six` their codes. Assumes nothing.
 use mathlib.Core.Path.{sym, ◌∙◌}
-use borrow.Author.Rules.{rules}
 use Rattle.writing.proofs.WritingLaws.{over_refused, under_refused, delay_refused, input_refused, logic_refused, encoded_is}
 use Rattle.writing.proofs.encoder.encode.Goals as goal
 

@@ -1,6 +1,5 @@
 -- `writing::encoder::lacking` meets its contract: the repeated array computes to the definition's eight zeros. Assumes nothing.
 use mathlib.Core.Path.{ap}
-use borrow.Author.Rules.{rules}
 use lib.ListN.{replicate}
 use Rattle.records.specs.declared.Verdict.{Verdict}
 use Rattle.writing.proofs.encoder.lacking.Goals as goal

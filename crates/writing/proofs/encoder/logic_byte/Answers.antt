@@ -1,6 +1,5 @@
 -- `writing::encoder::logic_byte` meets its contract: its tests are the definition's. Assumes nothing.
 use borrow.Author.Tests.{le-leb, lt-leb}
-use borrow.Author.Rules.{rules}
 use Rattle.writing.specs.Writing.{has_logic, logic_byte}
 use Rattle.writing.proofs.encoder.logic_byte.Goals as goal
 

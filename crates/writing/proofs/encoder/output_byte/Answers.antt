@@ -1,6 +1,5 @@
 -- `writing::encoder::output_byte` meets its contract: the two codes have room in their fields. Assumes nothing.
 use mathlib.Core.Path.{sym}
-use borrow.Author.Rules.{rules}
 use Rattle.writing.proofs.WritingLaws.{output_is}
 use Rattle.writing.proofs.encoder.output_byte.Goals as goal
 

@@ -1,6 +1,5 @@
 -- `writing::encoder::pin_logic_byte` meets its contract: a code that a table lacks leaves the byte lacking, and two that it has are joined. Assumes nothing.
 use mathlib.Core.Path.{sym, ◌∙◌}
-use borrow.Author.Rules.{rules}
 use Rattle.writing.proofs.WritingLaws.{pin_logic_is, pulse_lacks, delay_lacks}
 use Rattle.writing.proofs.encoder.pin_logic_byte.Goals as goal
 

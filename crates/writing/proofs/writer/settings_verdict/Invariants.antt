@@ -1,12 +1,10 @@
 -- `writing::writer::settings_verdict` meets its contract: what is left of the groups' tests gives the whole answer. Assumes nothing.
 use Prim.Native.Nat.{◌-◌}
-use mathlib.Core.Path.{◌≡◌, refl, ◌∙◌}
-use borrow.Author.Rules.{rules}
+use mathlib.Core.Path.{◌≡◌}
 use lib.ListN.{length}
-use Rattle.records.proofs.VerdictLaws.{Searched, searched_none, searched_pass, searched_hit, searched_end}
+use Rattle.records.proofs.VerdictLaws.{Searched}
 use Rattle.writing.specs.Writing.{settings_verdict}
-use Rattle.image.proofs.SettingsLaws.{ten_groups}
-use Rattle.writing.proofs.WritingLaws.{settings_test, settings_groups, encoded_test}
+use Rattle.writing.proofs.WritingLaws.{settings_test}
 use Rattle.writing.proofs.writer.settings_verdict.Given as goal
 
 abbrev pub invariant-loop-k : goal.invariant-loop-k

@@ -1,7 +1,6 @@
 -- `writing::writer::write` meets its contract: a refusal comes before the first store, and past the tests the groups are written. Assumes nothing.
 use mathlib.Core.Path.{◌∙◌}
 use native.Mathlib.Omega.{arith}
-use borrow.Author.Rules.{rules}
 use Rattle.writing.proofs.WritingLaws.{write_whole, write_not_whole, written_refused, written_accepted}
 use Rattle.writing.proofs.writer.write.Goals as goal
 

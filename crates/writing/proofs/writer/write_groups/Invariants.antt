@@ -1,15 +1,10 @@
 -- `writing::writer::write_groups` meets its contract: each turn lends the part of one more group, whose bytes are the encoder's. Assumes nothing.
-use Prim.Native.Nat.{◌+◌, ◌-◌, ◌*◌, ◌≤◌}
-use mathlib.Core.Path.{◌≡◌, refl, ap, ◌∙◌}
+use Prim.Native.Nat.{◌-◌, ◌*◌, ◌≤◌}
+use mathlib.Core.Path.{◌≡◌}
 use mathlib.Core.List.{◌++◌}
-use native.Mathlib.Omega.{arith}
-use borrow.Author.Rules.{rules}
-use lib.ListN.{length, drop, length-take, length-drop}
+use lib.ListN.{length, drop}
 use Rattle.records.specs.Lists.{each}
-use Rattle.records.proofs.ListLaws.{lent_back, lent_length, filled_all}
-use Rattle.writing.specs.Writing.{image_of}
-use Rattle.image.proofs.SettingsLaws.{ten_groups}
-use Rattle.writing.proofs.WritingLaws.{byte_at, group_bytes_lem}
+use Rattle.writing.proofs.WritingLaws.{byte_at}
 use Rattle.writing.proofs.writer.write_groups.Given as goal
 
 abbrev pub invariant-loop-k : goal.invariant-loop-k
