@@ -1,9 +1,7 @@
 -- `pins::drive_all` meets its contract. The loop's invariant: the word has the bits of the first k pins.
 -- The measure is how many pins are left. Assumes nothing.
-use Prim.Native.Nat.{◌-◌, ◌≤◌}
 use mathlib.Core.Path.{◌≡◌, refl, ap, ◌∙◌}
 use native.Mathlib.Omega.{arith}
-use borrow.Author.Rules.{rules}
 use Rattle.records.specs.Words.{word_of}
 use Rattle.records.proofs.WordLaws.{added_more, added_fits}
 use Rattle.image.proofs.SettingsLaws.{ten_groups}

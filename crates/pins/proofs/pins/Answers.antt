@@ -1,7 +1,6 @@
 -- `pins::pins` meets its contract: its tests stand in the definition's order, and it answers by their verdict. Assumes nothing.
-use mathlib.Core.Path.{◌≡◌, sym}
+use mathlib.Core.Path.{sym}
 use native.Mathlib.Omega.{arith}
-use borrow.Author.Rules.{rules}
 use lib.Dec.{ltb}
 use Rattle.records.specs.Numbers.{bad_word}
 use Rattle.records.proofs.VerdictLaws.{first_tested, first_last}

@@ -1,10 +1,8 @@
 -- `states::bytes_verdict` meets its contract: its two tests are the definition's. Assumes nothing.
 -- the bytes that the code read are those of the definition
-use mathlib.Core.Path.{◌≡◌, refl, ap}
-use mathlib.Core.Bool.{Bool, ◌&&◌}
+use mathlib.Core.Path.{refl, ap}
+use mathlib.Core.Bool.{Bool}
 use native.Mathlib.Omega.{arith}
-use lib.Dec.{eqb}
-use borrow.Author.Rules.{rules}
 use Rattle.records.specs.Verdicts.{refused_unless}
 use Rattle.records.proofs.VerdictLaws.{first_chained, chained, chain_more, unless_accepted}
 use Rattle.states.specs.States.{zeros_stand, bytes_verdict}

@@ -1,6 +1,5 @@
 -- `states::state_bytes` meets its contract, byte by byte. Assumes nothing.
 use mathlib.Core.Path.{refl}
-use borrow.Author.Rules.{rules}
 use Rattle.records.specs.Words.{low_byte, high_byte}
 use Rattle.states.specs.States.{state_bytes}
 use Rattle.states.proofs.state_bytes.Goals as goal

@@ -1,5 +1,4 @@
 -- `states::state_from` meets its contract: each field is the word or the byte at its offset. Assumes nothing.
-use borrow.Author.Rules.{rules}
 use Rattle.states.specs.States.{state_from}
 use Rattle.states.proofs.state_from.Goals as goal
 

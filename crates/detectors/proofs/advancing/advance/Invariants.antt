@@ -1,18 +1,12 @@
 -- `detectors::advancing::advance` meets its contract. The loop's invariant: the first k channels have run, the others stand as they came, and the words have their bits.
 -- The measure is how many channels are left. Assumes nothing.
-use Prim.Native.Nat.{◌-◌, ◌≤◌, ◌<◌}
-use mathlib.Core.Path.{◌≡◌, refl, ap}
+use Prim.Native.Nat.{◌-◌, ◌≤◌}
+use mathlib.Core.Path.{◌≡◌}
 use mathlib.Core.List.{◌++◌}
-use native.Mathlib.Omega.{arith}
-use borrow.Author.Rules.{rules}
-use lib.ListN.{length, drop}
+use lib.ListN.{drop}
 use Rattle.records.specs.Lists.{each}
 use Rattle.records.specs.Words.{word_of}
-use Rattle.records.proofs.ListLaws.{filled_more}
-use Rattle.records.proofs.WordLaws.{added_more, added_fits}
-use Rattle.channels.specs.declared.Ran.{Ran}
-use Rattle.detectors.proofs.BankLaws.{ten_channels}
-use Rattle.detectors.proofs.TickLaws.{ran_at, ran_all}
+use Rattle.detectors.proofs.TickLaws.{ran_at}
 use Rattle.detectors.proofs.advancing.advance.Given as goal
 
 abbrev pub invariant-loop-k : goal.invariant-loop-k

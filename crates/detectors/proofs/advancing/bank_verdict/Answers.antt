@@ -1,12 +1,10 @@
 -- `detectors::advancing::bank_verdict` meets its contract. The loop's invariant: the channels that are left give the whole answer.
 -- The measure is how many are left. Assumes nothing.
-use Prim.Native.Nat.{ℕ, ◌-◌}
-use mathlib.Core.Path.{◌≡◌, refl, sym, ◌∙◌}
+use mathlib.Core.Path.{refl, sym, ◌∙◌}
 use native.Mathlib.Omega.{arith}
-use borrow.Author.Rules.{rules}
 use borrow.Author.Tests.{not-true, not-false}
 use Rattle.records.specs.Numbers.{unreachable}
-use Rattle.records.proofs.VerdictLaws.{Searched, searched_none, searched_end, flagged, flag_pass, flag_hit}
+use Rattle.records.proofs.VerdictLaws.{searched_none, searched_end, flag_pass, flag_hit}
 use Rattle.detectors.specs.Bank.{bank_verdict}
 use Rattle.detectors.proofs.BankLaws.{channel_flag}
 use Rattle.detectors.proofs.advancing.bank_verdict.Goals as goal

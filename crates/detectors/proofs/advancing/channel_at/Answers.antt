@@ -1,6 +1,5 @@
 -- `detectors::advancing::channel_at` meets its contract: a bank holds ten channels. Assumes nothing.
 use native.Mathlib.Omega.{arith}
-use borrow.Author.Rules.{rules}
 use Rattle.records.proofs.ListLaws.{get_d_default}
 use Rattle.detectors.proofs.BankLaws.{ten_channels}
 use Rattle.detectors.proofs.advancing.channel_at.Goals as goal

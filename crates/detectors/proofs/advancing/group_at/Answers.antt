@@ -1,6 +1,5 @@
 -- `detectors::advancing::group_at` meets its contract: settings hold ten groups. Assumes nothing.
 use native.Mathlib.Omega.{arith}
-use borrow.Author.Rules.{rules}
 use Rattle.records.proofs.ListLaws.{get_d_default}
 use Rattle.image.proofs.SettingsLaws.{ten_groups}
 use Rattle.detectors.proofs.advancing.group_at.Goals as goal

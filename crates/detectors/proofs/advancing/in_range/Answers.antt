@@ -1,5 +1,4 @@
 -- `detectors::advancing::in_range` meets its contract: its four tests are the definition's. Assumes nothing.
-use borrow.Author.Rules.{rules}
 use Rattle.detectors.specs.Bank.{in_range}
 use Rattle.channels.specs.Channel.{ticks}
 use Rattle.detectors.proofs.advancing.in_range.Goals as goal

@@ -1,5 +1,4 @@
 -- `detectors::ticks::detect` meets its contract: where a test refuses, the bank as received; else the bank advanced. Assumes nothing.
-use borrow.Author.Rules.{rules}
 use Rattle.detectors.proofs.TickLaws.{detected_refused, detected_accepted}
 use Rattle.detectors.proofs.ticks.detect.Goals as goal
 

@@ -1,5 +1,4 @@
 -- `detectors::ticks::engine_tick` meets its contract: it is `detect` over twenty frames. Assumes nothing.
-use borrow.Author.Rules.{rules}
 use Rattle.detectors.specs.Tick.{engine_ticked}
 use Rattle.detectors.proofs.ticks.engine_tick.Goals as goal
 

@@ -1,7 +1,6 @@
 -- `detectors::ticks::frames_verdict` meets its contract: its tests stand in the definition's order. Assumes nothing.
 use mathlib.Core.Path.{refl, sym, ◌∙◌}
 use native.Mathlib.Omega.{arith}
-use borrow.Author.Rules.{rules}
 use borrow.Author.Tests.{eq-eqb, ne_eqb}
 use Rattle.records.specs.Verdicts.{accepted}
 use Rattle.records.proofs.ReturnLaws.{test_refuses, test_passes}

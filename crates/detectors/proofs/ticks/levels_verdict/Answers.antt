@@ -1,12 +1,10 @@
 -- `detectors::ticks::levels_verdict` meets its contract. The loop's invariant: the frames that are left give the whole answer.
 -- The measure is how many are left. Assumes nothing.
-use Prim.Native.Nat.{ℕ, ◌-◌}
 use mathlib.Core.Path.{refl, ◌∙◌}
 use native.Mathlib.Omega.{arith}
-use borrow.Author.Rules.{rules}
 use borrow.Author.Tests.{lt-ltb, le-ltb}
 use Rattle.records.specs.Numbers.{bad_word}
-use Rattle.records.proofs.VerdictLaws.{Searched, searched_none, searched_end, flagged, flag_pass, flag_hit}
+use Rattle.records.proofs.VerdictLaws.{searched_none, searched_end, flag_pass, flag_hit}
 use Rattle.detectors.specs.Tick.{levels_in_range, levels_verdict}
 use Rattle.detectors.proofs.TickLaws.{levels_read}
 use Rattle.detectors.proofs.ticks.levels_verdict.Goals as goal

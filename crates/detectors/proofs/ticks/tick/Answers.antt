@@ -1,5 +1,4 @@
 -- `detectors::ticks::tick` meets its contract: it is `detect` over one frame. Assumes nothing.
-use borrow.Author.Rules.{rules}
 use Rattle.detectors.specs.Tick.{ticked}
 use Rattle.detectors.proofs.ticks.tick.Goals as goal
 

@@ -1,6 +1,5 @@
 -- `sheets::node::node_at` meets its contract field by field. Assumes nothing.
 use mathlib.Core.Path.{ap, ◌∙◌}
-use borrow.Author.Rules.{rules}
 use Rattle.sheets.specs.Sheets.{target, node_at}
 use Rattle.steps.specs.declared.Step.{Step}
 use Rattle.sheets.proofs.node.node_at.Goals as goal

@@ -1,6 +1,5 @@
 -- `sheets::node::target` meets its contract: its test is the definition's. Assumes nothing.
 use borrow.Author.Tests.{eq-eqb, ne_eqb}
-use borrow.Author.Rules.{rules}
 use Rattle.sheets.specs.Sheets.{target}
 use Rattle.sheets.proofs.node.target.Goals as goal
 

@@ -1,10 +1,7 @@
 -- `sheets::tags::look_up` meets its contract. The invariant: the steps from k on give the whole look-up. Assumes nothing.
-use Prim.Native.Nat.{◌-◌}
 use mathlib.Core.Path.{◌≡◌, sym, ◌∙◌}
 use native.Mathlib.Omega.{arith}
-use borrow.Author.Rules.{rules}
-use Rattle.records.proofs.TagSearch.{LookedUp, looked_none, looked_pass, looked_hit, looked_end}
-use Rattle.steps.specs.Steps.{step_count}
+use Rattle.records.proofs.TagSearch.{looked_none, looked_pass, looked_hit, looked_end}
 use Rattle.sheets.proofs.tags.look_up.Goals as goal
 
 pub loop-k-init : goal.loop-k-init

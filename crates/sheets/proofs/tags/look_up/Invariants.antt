@@ -1,9 +1,7 @@
 -- `sheets::tags::look_up` meets its contract. The invariant: the steps from k on give the whole look-up. Assumes nothing.
 use Prim.Native.Nat.{◌-◌}
-use mathlib.Core.Path.{◌≡◌, sym, ◌∙◌}
-use native.Mathlib.Omega.{arith}
-use borrow.Author.Rules.{rules}
-use Rattle.records.proofs.TagSearch.{LookedUp, looked_none, looked_pass, looked_hit, looked_end}
+use mathlib.Core.Path.{◌≡◌}
+use Rattle.records.proofs.TagSearch.{LookedUp}
 use Rattle.steps.specs.Steps.{step_count}
 use Rattle.sheets.proofs.tags.look_up.Given as goal
 

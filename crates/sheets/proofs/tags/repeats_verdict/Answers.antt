@@ -1,18 +1,14 @@
 -- `sheets::tags::repeats_verdict` meets its contract. The outer invariant: the steps from `later` on give the whole verdict; the inner one: no step
 -- before `earlier` has the tag of `later`. Left by the label, an earlier step has it. Assumes nothing.
 -- no earlier step has the tag of step j
-use Prim.Native.Nat.{ℕ, ◌-◌, ◌≤◌}
 use Rattle.std.specs.Bool.{◌==◌}
 use mathlib.Core.Path.{◌≡◌, refl, ap, sym, ◌∙◌}
-use mathlib.Core.Logic.{⊎_elim}
-use mathlib.Core.Bool.{Bool, false, not}
-use mathlib.Core.List.{List}
+use mathlib.Core.Bool.{Bool, not}
 use native.Mathlib.Omega.{arith}
-use borrow.Author.Rules.{rules}
 use borrow.Author.Tests.{eq-eqb, ne_eqb}
-use Rattle.records.specs.Tags.{tag_at, used_before, repeats}
+use Rattle.records.specs.Tags.{used_before, repeats}
 use Rattle.records.specs.Verdicts.{refused_unless}
-use Rattle.records.proofs.VerdictLaws.{chain_one, Searched, searched_none, flag_pass, flag_hit, searched_end}
+use Rattle.records.proofs.VerdictLaws.{chain_one, searched_none, flag_pass, flag_hit, searched_end}
 use Rattle.records.proofs.TagSearch.{used_none, used_pass}
 use Rattle.records.proofs.TagLaws.{some_repeats}
 use Rattle.sheets.specs.Sheets.{repeats_verdict}

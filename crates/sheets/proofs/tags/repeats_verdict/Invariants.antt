@@ -2,18 +2,12 @@
 -- before `earlier` has the tag of `later`. Left by the label, an earlier step has it. Assumes nothing.
 -- no earlier step has the tag of step j
 use Prim.Native.Nat.{ℕ, ◌-◌, ◌≤◌}
-use mathlib.Core.Path.{◌≡◌, refl, ap, sym, ◌∙◌}
-use mathlib.Core.Logic.{⊎_elim}
+use mathlib.Core.Path.{◌≡◌}
 use mathlib.Core.Bool.{Bool, false, not}
 use mathlib.Core.List.{List}
-use native.Mathlib.Omega.{arith}
-use borrow.Author.Rules.{rules}
-use borrow.Author.Tests.{eq-eqb, ne_eqb}
 use Rattle.records.specs.Tags.{tag_at, used_before, repeats}
 use Rattle.records.specs.Verdicts.{refused_unless}
-use Rattle.records.proofs.VerdictLaws.{chain_one, Searched, searched_none, flag_pass, flag_hit, searched_end}
-use Rattle.records.proofs.TagSearch.{used_none, used_pass}
-use Rattle.records.proofs.TagLaws.{some_repeats}
+use Rattle.records.proofs.VerdictLaws.{Searched}
 use Rattle.sheets.specs.Sheets.{repeats_verdict}
 use Rattle.sheets.proofs.tags.repeats_verdict.Given as goal
 

@@ -1,5 +1,4 @@
 -- `sheets::tags::tag` meets its contract: a tag is the word that a step begins with. Assumes nothing.
-use borrow.Author.Rules.{rules}
 use Rattle.records.specs.Tags.{tag_at}
 use Rattle.sheets.proofs.tags.tag.Goals as goal
 

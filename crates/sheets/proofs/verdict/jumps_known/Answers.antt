@@ -1,7 +1,6 @@
 -- `sheets::verdict::jumps_known` meets its contract: the three jumps of the step, one after the other. Assumes nothing.
 use mathlib.Core.Path.{ap, ap₂, ◌∙◌}
 use mathlib.Core.Bool.{◌&&◌}
-use borrow.Author.Rules.{rules}
 use Rattle.sheets.specs.Sheets.{known, jumps_known}
 use Rattle.steps.specs.declared.Step.{Step}
 use Rattle.sheets.proofs.verdict.jumps_known.Goals as goal

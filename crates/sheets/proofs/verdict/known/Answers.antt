@@ -2,7 +2,6 @@
 use mathlib.Core.Path.{ap₂}
 use lib.Dec.{ltb}
 use borrow.Author.Tests.{eq-eqb, ne_eqb}
-use borrow.Author.Rules.{rules}
 use Rattle.sheets.specs.Sheets.{known}
 use Rattle.sheets.proofs.verdict.known.Goals as goal
 

@@ -1,7 +1,6 @@
 -- `sheets::verdict::sheet_verdict` meets its contract: its four tests are the definition's, in their order. Assumes nothing.
 use mathlib.Core.Path.{ap}
 use mathlib.Core.Bool.{Bool}
-use borrow.Author.Rules.{rules}
 use Rattle.records.specs.Verdicts.{refused_unless}
 use Rattle.records.proofs.VerdictLaws.{first_chained, chained, chain_more, first_accepted}
 use Rattle.sheets.specs.Sheets.{unknown_verdict, sheet_tests, sheet_verdict}

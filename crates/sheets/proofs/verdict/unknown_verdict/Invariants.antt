@@ -1,11 +1,7 @@
 -- `sheets::verdict::unknown_verdict` meets its contract. The invariant: the steps from k on give the whole verdict. Assumes nothing.
 use Prim.Native.Nat.{◌-◌}
-use mathlib.Core.Path.{refl, sym, ◌∙◌}
-use native.Mathlib.Omega.{arith}
-use borrow.Author.Rules.{rules}
-use borrow.Author.Tests.{not-true, not-false}
 use Rattle.records.specs.Verdicts.{refused_unless}
-use Rattle.records.proofs.VerdictLaws.{Searched, searched_none, flag_pass, flag_hit, searched_end}
+use Rattle.records.proofs.VerdictLaws.{Searched}
 use Rattle.sheets.specs.Sheets.{jumps_known, unknown_verdict}
 use Rattle.sheets.proofs.verdict.unknown_verdict.Given as goal
 
