@@ -6,7 +6,7 @@ use native.Mathlib.Nat.{add-zero, add-suc, suc-add, add-sub_of_le, le_antisymm, 
 use native.Mathlib.Decide.{dec_le}
 use native.Mathlib.Omega.{arith}
 use borrow.Author.Tests.{lt-ltb, le-ltb}
-use lib.ListN.{length, take, drop, length-append, length-take, length-map}
+use lib.ListN.{length, take, drop, length-append, length-take}
 use lib.Seq.{paste, take_at, take-append-add, drop-append-add, drop-drop}
 use mir.Val.{Val}
 use denote.Laws.{Is as Owned}
@@ -43,7 +43,7 @@ line_of bytes length = record { bytes = bytes; length = length }
 
 -- what its type tells of a line
 pub line_bytes : (line : Line) (values : List Val) → Owned (row the_type) line values → length line.bytes ≡ 256
-line_bytes line values owned = simp length-map at owned.1.1.0.1.0.1
+line_bytes line values owned = owned.1.1.0.1.0.1
 
 pub written_empty : written empty_line ≡ []
 unfolding written
