@@ -80,7 +80,7 @@ module _ (line : Line) (whole : length line.bytes ≡ 256) where
   unfolding written
   written_length = length-take (min line.length 256) line.bytes ∙ omega arith
 
-  written_take : take (length (written line)) line.bytes ≡ written line
+  pub written_take : take (length (written line)) line.bytes ≡ written line
   unfolding written
   written_take = ap (λ (n : ℕ). take n line.bytes) written_length
 
