@@ -10,8 +10,8 @@ ghost use Rattle.std.specs.Prelude.{◌≡◌, ◌<◌, IfOk, OnErr, OnOk, false
 ghost use Rattle.std.specs.Io.KnownBytes.{Appends, Consumes, IsAtEnd};
 ghost use Rattle.io.specs.Counts.{IsPrefixLen};
 ghost use Rattle.text.specs.Text.{written};
-ghost use Rattle.console.specs.Output.{AppendsPart};
 ghost use Rattle.console.specs.Refusal.{refusal_line};
+ghost use Rattle.console.specs.Streams.{AppendsPart, ConsumesPart};
 
 use std::io;
 use std::io::{ErrorKind, Read, Write};
@@ -31,6 +31,7 @@ pub fn receive<R: Read>(input: &mut R, buffer: &mut [u8]) -> Received
     ensures failed { result.failed ≡ true → result.count ≡ 0 }
     ensures bytes { result.failed ≡ false → Consumes (R.remaining input.old) (R.remaining input.new) (take result.count buffer.new) }
     ensures end { result.failed ≡ false → result.count < length buffer.new → IsAtEnd (R.remaining input.new) }
+    ensures part { result.failed ≡ true → ConsumesPart (R.remaining input.old) (R.remaining input.new) buffer.new }
 {
     let mut done = 0;
     while done < buffer.len() {
