@@ -11,29 +11,35 @@ mod names;
 
 use console::print;
 use image::{Group, Logic, Output, Settings, Threshold};
+use std::io;
+use std::io::Write;
 use text::Line;
 
-fn main() {
+fn main(rt: HostRuntime) -> io::Result<()> {
     // One byte more than an image, so that a longer input is refused and not cut.
     let mut buffer = [0u8; 81];
-    let received = console::receive(&mut buffer);
+    let received = console::receive(&mut rt.stdin(), &mut buffer);
     let reading = reading::read(&buffer[..received.count]);
-    if reading.verdict.number != 0 {
-        print(console::refusal(b"", reading.verdict.number, reading.verdict.place));
-        return;
+    let verdict = reading.verdict;
+    if verdict.number != 0 {
+        print(
+            &mut rt.stdout(),
+            console::refusal(b"", verdict.number, verdict.place),
+        )?;
+        return Ok(());
     }
-    let settings = reading.settings;
-    print_groups(settings);
+    print_groups(&mut rt.stdout(), reading.settings)
 }
 
-fn print_groups(settings: Settings) {
+fn print_groups(output: &mut impl Write, settings: Settings) -> io::Result<()> {
     // Settings that were read are never refused by the writer.
     let mut normal = [0u8; 80];
     writing::write(settings, &mut normal);
     let groups = settings.groups;
     for k in 0..10 {
-        print(group_line(k, groups[k], &normal[8 * k..8 * k + 8]));
+        print(output, group_line(k, groups[k], &normal[8 * k..8 * k + 8]))?;
     }
+    Ok(())
 }
 
 fn group_line(k: usize, group: Group, normal: &[u8]) -> Line {
