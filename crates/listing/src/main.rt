@@ -9,31 +9,37 @@
 
 use console::print;
 use machine::Node;
+use std::io;
+use std::io::Write;
 use text::Line;
 
-fn main() {
+fn main(rt: HostRuntime) -> io::Result<()> {
     // One byte more than the longest sheet, so that a longer input is refused and not cut.
     let mut sheet = [0u8; 1009];
-    let received = console::receive(&mut sheet);
+    let received = console::receive(&mut rt.stdin(), &mut sheet);
     let mut table = [0u8; 756];
     let translation = translator::translate(&sheet[..received.count], &mut table);
     let verdict = translation.verdict;
     if verdict.number != 0 {
-        print(console::refusal(b"", verdict.number, verdict.place));
-        return;
+        print(
+            &mut rt.stdout(),
+            console::refusal(b"", verdict.number, verdict.place),
+        )?;
+        return Ok(());
     }
-    print(heading(translation.cells));
-    print_cells(&table, translation.cells);
+    print(&mut rt.stdout(), heading(translation.cells))?;
+    print_cells(&mut rt.stdout(), &table, translation.cells)
 }
 
 fn heading(cells: u8) -> Line {
     text::empty().word(b"cells").item(cells as u64).word(b"\n")
 }
 
-fn print_cells(table: &[u8], cells: u8) {
+fn print_cells(output: &mut impl Write, table: &[u8], cells: u8) -> io::Result<()> {
     for k in 0..cells {
-        print(cell_line(k, tables::cell_at(table, k)));
+        print(output, cell_line(k, tables::cell_at(table, k)))?;
     }
+    Ok(())
 }
 
 fn cell_line(k: u8, cell: Node) -> Line {

@@ -19,48 +19,56 @@ ghost use Rattle.io.specs.Counts.{IsPrefixLen};
 use board::Board;
 use console::{print, refusal};
 use image::Settings;
+use std::io;
+use std::io::{Read, Write};
 use text::Line;
 
-fn main() {
+fn main(rt: HostRuntime) -> io::Result<()> {
     // A read that failed counts no byte, and the reader refuses that.
     let mut bytes = [0u8; 80];
-    let received = console::receive(&mut bytes);
+    let received = console::receive(&mut rt.stdin(), &mut bytes);
     let reading = reading::read(&bytes[..received.count]);
     let verdict = reading.verdict;
     if verdict.number != 0 {
-        print(refusal(b" image", verdict.number, verdict.place));
-        return;
+        print(
+            &mut rt.stdout(),
+            refusal(b" image", verdict.number, verdict.place),
+        )?;
+        return Ok(());
     }
-    let settings = reading.settings;
-    play_sheet(settings);
+    play_sheet(&mut rt.stdin(), &mut rt.stdout(), reading.settings)
 }
 
-fn play_sheet(settings: Settings) {
+fn play_sheet(
+    input: &mut impl Read,
+    output: &mut impl Write,
+    settings: Settings,
+) -> io::Result<()> {
     // One byte more than the longest sheet, so that a longer one is refused and not cut.
     let mut sheet = [0u8; 1009];
-    let length = receive_sheet(&mut sheet);
+    let length = receive_sheet(input, &mut sheet);
     let mut table = [0u8; 756];
     let translation = translator::translate(&sheet[..length], &mut table);
     let verdict = translation.verdict;
     if verdict.number != 0 {
-        print(refusal(b" sheet", verdict.number, verdict.place));
-        return;
+        print(output, refusal(b" sheet", verdict.number, verdict.place))?;
+        return Ok(());
     }
     let bytes = 12 * translation.cells as usize;
-    play_ticks(settings, &table[..bytes]);
+    play_ticks(input, output, settings, &table[..bytes])
 }
 
 // The length of the sheet that came; 0, which the translator refuses, where it is cut short.
-fn receive_sheet(sheet: &mut [u8]) -> usize
+fn receive_sheet(input: &mut impl Read, sheet: &mut [u8]) -> usize
     ensures { IsPrefixLen result sheet.new }
 {
     let mut announced = [0u8; 2];
-    let received = console::receive(&mut announced);
+    let received = console::receive(input, &mut announced);
     if received.count < 2 {
         return 0;
     }
     let length = least(words::word_at(&announced, 0) as usize, sheet.len());
-    let received = console::receive(&mut sheet[..length]);
+    let received = console::receive(input, &mut sheet[..length]);
     if received.count < length {
         return 0;
     }
@@ -75,22 +83,28 @@ fn least(a: usize, b: usize) -> usize
 
 // Stops at the end of the input, at a refusal, or at the last tick that a u64 counts, after 58 million
 // years of the board's time. A read that failed counts no byte, and the detectors refuse that.
-fn play_ticks(settings: Settings, table: &[u8]) {
+fn play_ticks(
+    input: &mut impl Read,
+    output: &mut impl Write,
+    settings: Settings,
+    table: &[u8],
+) -> io::Result<()> {
     let mut board = board::start(settings, table);
-    print(start_line(board));
+    print(output, start_line(board))?;
     for tick in 0..u64::MAX {
         if board.verdict.number != 0 {
-            return;
+            break;
         }
         let mut frames = [0u8; 220];
-        let received = console::receive(&mut frames);
+        let received = console::receive(input, &mut frames);
         let count = received.count;
         if count == 0 && !received.failed {
-            return;
+            break;
         }
         board = board.tick(settings, table, &frames[..count]);
-        print(tick_line(tick + 1, board));
+        print(output, tick_line(tick + 1, board))?;
     }
+    Ok(())
 }
 
 fn start_line(board: Board) -> Line {

@@ -10,9 +10,11 @@ mod machine_calls;
 mod parts;
 mod settings;
 
-ghost use Rattle.std.specs.Prelude.{◌≤◌};
+ghost use Rattle.std.specs.Prelude.{◌≤◌, IfOk};
 
 use console::print;
+use std::io;
+use std::io::{Read, Write};
 use text::Line;
 use words::word_at;
 
@@ -27,24 +29,25 @@ struct Outcome {
     cut: bool,
 }
 
-fn main() {
+fn main(rt: HostRuntime) -> io::Result<()> {
     let mut number = 0;
     let mut different = 0;
     while number < u64::MAX {
-        let outcome = next_case();
+        let outcome = next_case(&mut rt.stdin());
         if outcome.ended {
-            report_end(number, outcome.cut);
+            report_end(&mut rt.stdout(), number, outcome.cut)?;
             break;
         }
-        different += differs(number, outcome, different);
+        different += differs(&mut rt.stdout(), number, outcome, different)?;
         number += 1;
     }
-    print(last_line(number - different, different));
+    print(&mut rt.stdout(), last_line(number - different, different))?;
+    Ok(())
 }
 
-fn next_case() -> Outcome {
+fn next_case(input: &mut impl Read) -> Outcome {
     let mut header = [0u8; 7];
-    let received = console::receive(&mut header);
+    let received = console::receive(input, &mut header);
     if received.count == 0 {
         return no_case(received.failed);
     }
@@ -55,7 +58,7 @@ fn next_case() -> Outcome {
     if received.count < 7 || given > LONGEST || lent > LONGEST || expected > LONGEST {
         return no_case(true);
     }
-    try_case(kind, given, lent, expected)
+    try_case(input, kind, given, lent, expected)
 }
 
 fn no_case(cut: bool) -> Outcome {
@@ -67,7 +70,7 @@ fn no_case(cut: bool) -> Outcome {
     }
 }
 
-fn try_case(kind: u8, given: usize, lent: usize, expected: usize) -> Outcome
+fn try_case(input: &mut impl Read, kind: u8, given: usize, lent: usize, expected: usize) -> Outcome
     requires given_bound { given ≤ 4096 }
     requires lent_bound { lent ≤ 4096 }
     requires expected_bound { expected ≤ 4096 }
@@ -75,9 +78,9 @@ fn try_case(kind: u8, given: usize, lent: usize, expected: usize) -> Outcome
     let mut arguments = [0u8; LONGEST];
     let mut buffer = [0u8; LONGEST];
     let mut answer = [0u8; LONGEST];
-    let came = parts::receive(&mut arguments, given)
-        & parts::receive(&mut buffer, lent)
-        & parts::receive(&mut answer, expected);
+    let came = parts::receive(input, &mut arguments, given)
+        & parts::receive(input, &mut buffer, lent)
+        & parts::receive(input, &mut answer, expected);
     if !came {
         return no_case(true);
     }
@@ -96,23 +99,24 @@ fn try_case(kind: u8, given: usize, lent: usize, expected: usize) -> Outcome
 }
 
 // 1 where a case is not alike, and the first ten of them are told.
-fn differs(number: u64, outcome: Outcome, before: u64) -> u64
-    ensures { result ≤ 1 }
+fn differs(output: &mut impl Write, number: u64, outcome: Outcome, before: u64) -> io::Result<u64>
+    ensures { IfOk result (λ n. n ≤ 1) }
 {
     if outcome.alike {
-        return 0;
+        return Ok(0);
     }
     if before < 10 {
         let line = case_line(number).word(b" kind").item(outcome.kind as u64);
-        print(line.word(b" differs\n"));
+        print(output, line.word(b" differs\n"))?;
     }
-    1
+    Ok(1)
 }
 
-fn report_end(number: u64, cut: bool) {
+fn report_end(output: &mut impl Write, number: u64, cut: bool) -> io::Result<()> {
     if cut {
-        print(case_line(number).word(b" is cut short\n"));
+        print(output, case_line(number).word(b" is cut short\n"))?;
     }
+    Ok(())
 }
 
 fn case_line(number: u64) -> Line {

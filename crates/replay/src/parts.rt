@@ -2,14 +2,15 @@
 ghost use Rattle.std.specs.Prelude.{◌≤◌};
 
 use records::Verdict;
+use std::io::Read;
 use words::{byte_at, word_at};
 
 // Whether as many bytes came.
-pub(crate) fn receive(part: &mut [u8], length: usize) -> bool {
+pub(crate) fn receive(input: &mut impl Read, part: &mut [u8], length: usize) -> bool {
     if length > part.len() {
         return false;
     }
-    let received = console::receive(&mut part[0..length]);
+    let received = console::receive(input, &mut part[0..length]);
     received.count == length
 }
 

@@ -2,6 +2,8 @@
 use console::print;
 use engine::Ticked;
 use records::Verdict;
+use std::io;
+use std::io::Write;
 use text::Line;
 
 // NAME NUMBER PLACE
@@ -10,21 +12,39 @@ pub(crate) fn line(name: &[u8], verdict: Verdict) -> Line {
     line.item(verdict.number as u64).item(verdict.place as u64)
 }
 
-pub(crate) fn print_verdict(name: &[u8], verdict: Verdict) {
-    print(line(name, verdict).word(b"\n"));
+pub(crate) fn print_verdict(
+    output: &mut impl Write,
+    name: &[u8],
+    verdict: Verdict,
+) -> io::Result<()> {
+    print(output, line(name, verdict).word(b"\n"))?;
+    Ok(())
 }
 
 // The same with one item more, or two.
-pub(crate) fn print_item(name: &[u8], verdict: Verdict, item: u16) {
-    print(line(name, verdict).item(item as u64).word(b"\n"));
+pub(crate) fn print_item(
+    output: &mut impl Write,
+    name: &[u8],
+    verdict: Verdict,
+    item: u16,
+) -> io::Result<()> {
+    print(output, line(name, verdict).item(item as u64).word(b"\n"))?;
+    Ok(())
 }
 
-pub(crate) fn print_items(name: &[u8], verdict: Verdict, first: u16, second: u16) {
+pub(crate) fn print_items(
+    output: &mut impl Write,
+    name: &[u8],
+    verdict: Verdict,
+    first: u16,
+    second: u16,
+) -> io::Result<()> {
     let line = line(name, verdict).item(first as u64);
-    print(line.item(second as u64).word(b"\n"));
+    print(output, line.item(second as u64).word(b"\n"))?;
+    Ok(())
 }
 
-pub(crate) fn print_tick(name: &[u8], ticked: Ticked) {
+pub(crate) fn print_tick(output: &mut impl Write, name: &[u8], ticked: Ticked) -> io::Result<()> {
     let step = ticked.step as u16;
-    print_items(name, ticked.verdict, ticked.outputs, step);
+    print_items(output, name, ticked.verdict, ticked.outputs, step)
 }

@@ -11,16 +11,19 @@ mod engines;
 mod sheets_made;
 mod translations;
 
-fn main() {
-    translations::try_cells();
-    translations::try_lengths();
-    translations::try_order();
-    engines::try_words();
-    engines::try_table_order();
-    engines::try_sheet_order();
-    engines::try_bytes_order();
-    detections::try_read_order();
-    detections::try_write_order();
-    detections::try_tick_order();
-    detections::try_pin_order();
+use std::io;
+
+fn main(rt: HostRuntime) -> io::Result<()> {
+    let output = &mut rt.stdout();
+    translations::try_cells(output)?;
+    translations::try_lengths(output)?;
+    translations::try_order(output)?;
+    engines::try_words(output)?;
+    engines::try_table_order(output)?;
+    engines::try_sheet_order(output)?;
+    engines::try_bytes_order(output)?;
+    detections::try_read_order(output)?;
+    detections::try_write_order(output)?;
+    detections::try_tick_order(output)?;
+    detections::try_pin_order(output)
 }
