@@ -56,13 +56,13 @@ TwentyFrames tick = (length tick ≡ 220) × ((i : ℕ) → i < 20 → get_or (f
 pub words_length : (settings : Settings) (bank : Bank) (ticks : List (List ℕ)) → length (fault_words settings bank ticks) ≡ length ticks
 unfolding detected_run
 words_length settings bank [] = refl
-words_length settings bank (tick ∷ ticks) = ap suc (words_length settings _ ticks)
+words_length settings bank (tick ∷ ticks) = ap suc (words_length settings (engine_ticked settings bank tick).bank ticks)
 
 -- below 1024 as the engine asks, whatever the ticks.
 pub words_below : (settings : Settings) (bank : Bank) (ticks : List (List ℕ)) → Every (λ word. word < 1024) (fault_words settings bank ticks)
 unfolding detected_run engine_ticked
 words_below settings bank [] = none
-words_below settings bank (tick ∷ ticks) = (words_fit 20 settings bank tick).faults_fit also words_below settings _ ticks
+words_below settings bank (tick ∷ ticks) = (words_fit 20 settings bank tick).faults_fit also words_below settings (engine_ticked settings bank tick).bank ticks
 
 -- From an accepted bank under accepted settings, no engine tick of twenty frames is refused.
 pub ticks_taken : (settings : Settings) (bank : Bank) (ticks : List (List ℕ)) → (settings_verdict settings).number ≡ 0 → bank_verdict settings bank ≡ accepted
@@ -72,7 +72,7 @@ ticks_taken settings bank [] good held none = none
 ticks_taken settings bank (tick ∷ ticks) good held (fine also rest) =
     let fits : Acceptable 20 settings bank tick = record { length_right = fine.0; settings_accepted = good; bank_accepted = held; levels_low = fine.1 } in
     let taken = (accepted_exactly 20 settings bank tick).1 fits in
-    taken also ticks_taken settings _ ticks good (accepted_again 20 settings bank tick taken) rest
+    taken also ticks_taken settings (engine_ticked settings bank tick).bank ticks good (accepted_again 20 settings bank tick taken) rest
 
 -- ---- the path
 

@@ -1,5 +1,5 @@
 -- The engine's answers on sheets and on tables: the tests in their order, then the one tick rule. Assumes nothing.
-use Rattle.std.specs.Prelude.{ℕ, Bool, cond, List, [], ◌∷◌, ltb, eqb}
+use Rattle.std.specs.Prelude.{ℕ, cond, List, [], ◌∷◌, ltb, eqb}
 use Rattle.records.specs.Numbers.{unreachable, bad_word}
 use Rattle.records.specs.Verdicts.{accepted, refused_unless, first_refusal}
 use Rattle.records.specs.declared.Verdict.{Verdict}

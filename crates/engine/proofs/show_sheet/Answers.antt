@@ -1,5 +1,4 @@
 -- `engine::show_sheet` meets its contract: the tests of the state, then what shows. Assumes nothing.
-use borrow.Author.Rules.{rules}
 use Rattle.engine.specs.Engine.{sheet_form}
 use Rattle.engine.proofs.AnswerLaws.{shown_by}
 use Rattle.engine.proofs.show_sheet.Goals as goal

@@ -1,5 +1,4 @@
 -- `engine::tick_sheet` meets its contract: the tests of the state, the tick, then what shows. Assumes nothing.
-use borrow.Author.Rules.{rules}
 use Rattle.engine.specs.Engine.{sheet_form}
 use Rattle.engine.proofs.AnswerLaws.{ticked_by}
 use Rattle.engine.proofs.tick_sheet.Goals as goal

@@ -1,5 +1,4 @@
 -- `engine::tick_table` meets its contract: the tests of the state, the tick, then what shows. Assumes nothing.
-use borrow.Author.Rules.{rules}
 use Rattle.tables.specs.Tables.{cell_standing}
 use Rattle.engine.specs.Engine.{table_form, standing}
 use Rattle.engine.proofs.AnswerLaws.{ticked_by}

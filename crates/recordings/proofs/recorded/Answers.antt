@@ -1,11 +1,10 @@
 -- `recordings::recorded` meets its contract: the image, then the length, then the recording. Assumes nothing.
 -- the image is accepted where the call goes on
-use mathlib.Core.Path.{◌≡◌, ap, sym, ◌∙◌}
+use mathlib.Core.Path.{ap, sym, ◌∙◌}
 use lib.ListN.{length}
 use Prim.Native.Nat.{◌/◌}
-use borrow.Author.Rules.{rules}
 use Rattle.records.specs.declared.Verdict.{Verdict}
-use Rattle.image.specs.Reading.{image_verdict, settings_of, reading}
+use Rattle.image.specs.Reading.{reading}
 use Rattle.image.specs.declared.Reading.{Reading}
 use Rattle.image.specs.declared.Settings.{Settings}
 use Rattle.image.proofs.SettingsLaws.{settings_read}

@@ -1,5 +1,4 @@
 -- `state_calls::show_table` meets its contract: the state's bytes are tested, then what shows. Assumes nothing.
-use borrow.Author.Rules.{rules}
 use Rattle.engine.specs.Engine.{table_form}
 use Rattle.state_calls.proofs.StateCallLaws.{shown_by}
 use Rattle.state_calls.proofs.show_table.Goals as goal

@@ -2,7 +2,6 @@
 use Prim.Native.Nat.{ℕ}
 use mathlib.Core.Path.{ap, ◌∙◌}
 use mathlib.Core.List.{List}
-use borrow.Author.Rules.{rules}
 use Rattle.records.specs.Lists.{copied}
 use Rattle.records.proofs.VerdictLaws.{chain_one}
 use Rattle.states.specs.States.{state_bytes}

@@ -1,5 +1,4 @@
 -- `state_calls::tick_table` meets its contract: the state's bytes are tested, the tick made, and its state written back. Assumes nothing.
-use borrow.Author.Rules.{rules}
 use Rattle.engine.specs.Engine.{table_form}
 use Rattle.state_calls.proofs.StateCallLaws.{ticked_by}
 use Rattle.state_calls.proofs.tick_table.Goals as goal

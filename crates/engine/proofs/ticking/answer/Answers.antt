@@ -1,6 +1,5 @@
 -- `engine::ticking::answer` meets its contract: the verdict decides. Assumes nothing.
 use borrow.Author.Tests.{eq-eqb, ne_eqb}
-use borrow.Author.Rules.{rules}
 use Rattle.engine.specs.Engine.{answered_at}
 use Rattle.engine.proofs.ticking.answer.Goals as goal
 

@@ -1,5 +1,4 @@
 -- `engine::ticking::go` meets its contract: the word is tested, then the tick made. Assumes nothing.
-use borrow.Author.Rules.{rules}
 use borrow.Author.Tests.{eq-eqb, ne_eqb}
 use Rattle.engine.specs.Engine.{went_from}
 use Rattle.engine.proofs.AnswerLaws.{word_last}

@@ -1,5 +1,4 @@
 -- `recordings::ticks::at_start` meets its contract. Assumes nothing.
-use borrow.Author.Rules.{rules}
 use Rattle.recordings.proofs.ticks.at_start.Goals as goal
 
 pub returns : goal.returns

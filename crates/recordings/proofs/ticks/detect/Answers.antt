@@ -1,10 +1,9 @@
 -- `recordings::ticks::detect` meets its contract. The loop's invariant: `detected` is the answer after n engine ticks, and it is accepted.
 -- The measure is how many are left. Assumes nothing.
-use Prim.Native.Nat.{◌+◌, ◌-◌, ◌*◌, ◌≤◌, ◌/◌}
+use Prim.Native.Nat.{◌+◌, ◌-◌, ◌*◌, ◌/◌}
 use mathlib.Core.Path.{◌≡◌, refl, ap, sym, ◌∙◌}
 use native.Mathlib.Omega.{arith}
 use lib.ListN.{length}
-use borrow.Author.Rules.{rules}
 use Rattle.detectors.specs.declared.Detected.{Detected}
 use Rattle.detectors.specs.Bank.{start_bank}
 use Rattle.detectors.specs.Tick.{refused_on}

@@ -1,6 +1,5 @@
 -- `translator::cells::cells_for` meets its contract: rounding up is rounding down from one less, and one more. Assumes nothing.
 use native.Mathlib.Omega.{arith}
-use borrow.Author.Rules.{rules}
 use Rattle.translator.specs.Translation.{cells_for}
 use Rattle.translator.proofs.cells.cells_for.Goals as goal
 

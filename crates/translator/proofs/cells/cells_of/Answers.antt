@@ -1,6 +1,5 @@
 -- `translator::cells::cells_of` meets its contract: the word at offset 12 of a step is its timeout. Assumes nothing.
 use mathlib.Core.Path.{ap, ◌∙◌}
-use borrow.Author.Rules.{rules}
 use Rattle.steps.specs.Steps.{step_at}
 use Rattle.translator.specs.Translation.{cells_for}
 use Rattle.translator.proofs.cells.cells_of.Goals as goal

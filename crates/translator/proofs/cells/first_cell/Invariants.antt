@@ -1,11 +1,7 @@
 -- `translator::cells::first_cell` meets its contract. The invariant: the sum so far is the first cell of step i, and at most 17 for each step. Assumes nothing.
-use Prim.Native.Nat.{◌+◌, ◌-◌, ◌*◌, ◌≤◌}
-use mathlib.Core.Path.{◌≡◌, ap, sym, ◌∙◌}
-use native.Mathlib.Omega.{arith}
-use native.Mathlib.Numerals.{add-one}
-use borrow.Author.Rules.{rules}
-use Rattle.translator.specs.Translation.{cells_of, first_cell}
-use Rattle.translator.proofs.CellCounts.{first_zero, first_suc}
+use Prim.Native.Nat.{◌-◌, ◌*◌, ◌≤◌}
+use mathlib.Core.Path.{◌≡◌}
+use Rattle.translator.specs.Translation.{first_cell}
 use Rattle.translator.proofs.cells.first_cell.Given as goal
 
 abbrev pub invariant-loop-i : goal.invariant-loop-i

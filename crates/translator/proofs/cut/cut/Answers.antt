@@ -1,5 +1,4 @@
 -- `translator::cut::cut` meets its contract by its flag. Assumes nothing.
-use borrow.Author.Rules.{rules}
 use Rattle.translator.proofs.cut.cut.Goals as goal
 
 pub returns : goal.returns

@@ -4,7 +4,6 @@ use mathlib.Core.Path.{◌≡◌, ap, sym, ◌∙◌}
 use mathlib.Core.List.{List}
 use native.Mathlib.Omega.{arith}
 use lib.ListN.{length}
-use borrow.Author.Rules.{rules}
 use Rattle.records.specs.declared.Verdict.{Verdict}
 use Rattle.steps.specs.Steps.{step_count}
 use Rattle.translator.specs.Translation.{first_cell, cell_total, translation, translation_verdict}

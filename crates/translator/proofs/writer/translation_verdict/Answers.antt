@@ -3,7 +3,6 @@ use Prim.Native.Nat.{ℕ, ◌*◌}
 use mathlib.Core.Path.{ap, sym, ◌∙◌}
 use native.Mathlib.Omega.{arith}
 use lib.Dec.{leb}
-use borrow.Author.Rules.{rules}
 use Rattle.records.specs.Verdicts.{or_else, refused_unless}
 use Rattle.records.proofs.VerdictLaws.{first_chained, chained, chain_more, unless_accepted}
 use Rattle.translator.specs.Translation.{first_cell, cell_total}

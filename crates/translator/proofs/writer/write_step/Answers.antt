@@ -1,17 +1,16 @@
 -- `translator::writer::write_step` meets its contract. The invariant: j cells of the step are written, and the bytes before and after them stay.
 -- Assumes nothing.
-use Prim.Native.Nat.{ℕ, ◌+◌, ◌-◌, ◌*◌, ◌≤◌, ◌<◌}
+use Prim.Native.Nat.{ℕ, ◌+◌, ◌*◌, ◌≤◌}
 use mathlib.Core.Path.{◌≡◌}
 use mathlib.Core.List.{List}
 use native.Mathlib.Omega.{arith}
 use lib.ListN.{length}
-use borrow.Author.Rules.{rules}
 use Rattle.steps.specs.Steps.{step_at}
 use Rattle.translator.specs.Translation.{first_cell, cells_of}
 use Rattle.translator.proofs.CellCounts.{cells_least}
 use Rattle.translator.proofs.CutLeads.{step_within}
 use Rattle.translator.proofs.CutLaws.{cut_from}
-use Rattle.translator.proofs.WriteLaws.{CellsWritten, cells_none, cells_more, cells_all}
+use Rattle.translator.proofs.WriteLaws.{cells_none, cells_more, cells_all}
 use Rattle.translator.proofs.writer.write_step.Goals as goal
 
 -- a step takes a cell at least

@@ -1,16 +1,7 @@
 -- `translator::writer::write_step` meets its contract. The invariant: j cells of the step are written, and the bytes before and after them stay.
 -- Assumes nothing.
-use Prim.Native.Nat.{◌+◌, ◌-◌, ◌*◌, ◌≤◌, ◌<◌}
-use mathlib.Core.Path.{◌≡◌}
-use native.Mathlib.Omega.{arith}
-use lib.ListN.{length}
-use borrow.Author.Rules.{rules}
-use Rattle.steps.specs.Steps.{step_at}
-use Rattle.translator.specs.Translation.{first_cell}
-use Rattle.translator.proofs.CellCounts.{cells_least}
-use Rattle.translator.proofs.CutLeads.{step_within}
-use Rattle.translator.proofs.CutLaws.{cut_from}
-use Rattle.translator.proofs.WriteLaws.{CellsWritten, cells_none, cells_more, cells_all}
+use Prim.Native.Nat.{◌-◌, ◌≤◌}
+use Rattle.translator.proofs.WriteLaws.{CellsWritten}
 use Rattle.translator.proofs.writer.write_step.Given as goal
 
 abbrev pub invariant-loop-j : goal.invariant-loop-j

@@ -1,12 +1,9 @@
 -- `translator::writer::write_steps` meets its contract. The invariant: the cells of the first i steps are written, and the bytes after them stay.
 -- Assumes nothing.
-use Prim.Native.Nat.{◌-◌, ◌≤◌, ◌<◌}
+use Prim.Native.Nat.{◌-◌, ◌≤◌}
 use mathlib.Core.Path.{◌≡◌}
-use native.Mathlib.Omega.{arith}
-use borrow.Author.Rules.{rules}
 use Rattle.steps.specs.Steps.{step_count}
-use Rattle.translator.proofs.CutLeads.{step_within}
-use Rattle.translator.proofs.WriteLaws.{StepsWritten, steps_none, steps_more, steps_all}
+use Rattle.translator.proofs.WriteLaws.{StepsWritten}
 use Rattle.translator.proofs.writer.write_steps.Given as goal
 
 abbrev pub invariant-loop-i : goal.invariant-loop-i
