@@ -11,7 +11,7 @@ use Rattle.image.specs.declared.Settings.{Settings}
 use Rattle.writing.specs.Writing.{settings_verdict}
 use Rattle.pins.specs.Pins.{pins_verdict, driven}
 use Rattle.pins.specs.declared.Driven.{Driven}
-use Rattle.engine.specs.Engine.{sheet_form, table_form}
+use Rattle.engine.specs.Engine.{sheet_form}
 use Rattle.engine.specs.Runs.{sheet_run, table_run}
 use Rattle.engine.specs.declared.Ticked.{Ticked}
 use Rattle.translator.specs.Translation.{translation}

@@ -1,6 +1,6 @@
 -- How large the place of a refusal can be. Assumes nothing.
 use Prim.Native.Nat.{ℕ, zero, suc, ◌+◌, ◌*◌, ◌/◌, ◌%◌, ◌≤◌, ◌<◌}
-use mathlib.Core.Path.{◌≡◌, sym, subst}
+use mathlib.Core.Path.{sym, subst}
 use mathlib.Core.Bool.{Bool, true, false, cond, not}
 use mathlib.Core.List.{List, [], ◌∷◌}
 use native.Mathlib.Decide.{ℕ_discrete}
@@ -26,11 +26,10 @@ use Rattle.detectors.specs.declared.Bank.{Bank}
 use Rattle.detectors.specs.declared.Detected.{Detected}
 use Rattle.detector_laws.proofs.Refusals.{refused_answer, accepted_answer}
 use Rattle.machine.specs.Fields.{word_in_range, elapsed_in_range}
-use Rattle.machine.specs.Machine.{tick_on}
 use Rattle.machine.specs.declared.Node.{Node}
 use Rattle.machine.specs.declared.State.{State}
 use Rattle.steps.specs.Steps.{step_at, step_count, step_fault}
-use Rattle.sheets.specs.Sheets.{is_sheet, fields_verdict, repeats_verdict, jumps_known, unknown_verdict, sheet_tests, sheet_verdict, node_at}
+use Rattle.sheets.specs.Sheets.{is_sheet, fields_verdict, repeats_verdict, jumps_known, unknown_verdict, sheet_tests, sheet_verdict}
 use Rattle.tables.specs.Tables.{is_table, cell_count, cell_at, cell_fault, fields_verdict as cell_fields, cell_tests, cell_verdict}
 use Rattle.states.specs.States.{state_from, zeros_stand, bytes_verdict}
 use Rattle.engine.specs.Engine.{Form, sheet_form, table_form, nodes_of, standing, state_tested, state_verdict, word_verdict, answered_at, went_from, ticked, shown_at}

@@ -10,7 +10,7 @@ use lib.ListN.{length, get_or}
 use Rattle.records.specs.Numbers.{wrong_length, reserved, unprinted, out_of_range}
 use Rattle.records.specs.Verdicts.{accepted}
 use Rattle.image.specs.Reading.{image_verdict, settings_of, zero_settings, reading}
-use Rattle.writing.specs.Writing.{settings_verdict, write_verdict, image_of, written}
+use Rattle.writing.specs.Writing.{settings_verdict, write_verdict, written}
 use Rattle.blank_image.specs.Blank.{blank_image}
 use Rattle.image.specs.Normal.{normal}
 use Rattle.image.specs.declared.Settings.{Settings}

@@ -1,6 +1,5 @@
 -- `capi::wrackbasket_detect` meets its contract. Assumes nothing.
 use mathlib.Core.Path.{ap, ◌∙◌}
-use borrow.Author.Rules.{rules}
 use Rattle.packing.specs.Packed.{packed_words}
 use Rattle.capi.proofs.wrackbasket_detect.Goals as goal
 

@@ -1,16 +1,10 @@
 -- `capi::wrackbasket_normal` meets its contract: a refused image leaves the buffer, and of an accepted one the writer leaves the normal bytes. Assumes nothing.
-use mathlib.Core.Path.{◌≡◌, ap, sym, subst, ◌∙◌}
-use mathlib.Core.List.{List}
-use Prim.Native.Nat.{ℕ}
-use borrow.Author.Rules.{rules}
+use mathlib.Core.Path.{◌≡◌, ap, sym, ◌∙◌}
 use Rattle.records.specs.declared.Verdict.{Verdict}
-use Rattle.records.proofs.Every.{Bytes}
 use Rattle.image.specs.Reading.{image_verdict, reading}
 use Rattle.image.specs.declared.Reading.{Reading}
-use Rattle.image.specs.declared.Settings.{Settings}
 use Rattle.writing.specs.Writing.{write_verdict, written}
 use Rattle.packing.specs.Packed.{packed_verdict}
-use Rattle.capi.specs.Calls.{normal_verdict, normal_written}
 use Rattle.capi.proofs.CallLaws.{normal_refused, normal_kept, normal_taken}
 use Rattle.capi.proofs.wrackbasket_normal.Goals as goal
 

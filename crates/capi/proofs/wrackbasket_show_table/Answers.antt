@@ -1,6 +1,5 @@
 -- `capi::wrackbasket_show_table` meets its contract. Assumes nothing.
 use mathlib.Core.Path.{ap, ◌∙◌}
-use borrow.Author.Rules.{rules}
 use Rattle.packing.specs.Packed.{packed_tick}
 use Rattle.capi.proofs.wrackbasket_show_table.Goals as goal
 

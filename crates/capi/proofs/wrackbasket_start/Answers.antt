@@ -1,6 +1,5 @@
 -- `capi::wrackbasket_start` meets its contract. Assumes nothing.
 use mathlib.Core.Path.{ap, ◌∙◌}
-use borrow.Author.Rules.{rules}
 use Rattle.packing.specs.Packed.{packed_verdict}
 use Rattle.capi.proofs.wrackbasket_start.Goals as goal
 

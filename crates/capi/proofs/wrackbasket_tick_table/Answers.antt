@@ -1,6 +1,5 @@
 -- `capi::wrackbasket_tick_table` meets its contract. Assumes nothing.
 use mathlib.Core.Path.{ap, ◌∙◌}
-use borrow.Author.Rules.{rules}
 use Rattle.packing.specs.Packed.{packed_tick}
 use Rattle.capi.proofs.wrackbasket_tick_table.Goals as goal
 

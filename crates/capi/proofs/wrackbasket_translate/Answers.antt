@@ -1,8 +1,6 @@
 -- `capi::wrackbasket_translate` meets its contract. Assumes nothing.
 use mathlib.Core.Path.{ap, ◌∙◌}
-use borrow.Author.Rules.{rules}
 use Rattle.packing.specs.Packed.{packed_translation}
-use Rattle.translator.specs.declared.Translation.{Translation}
 use Rattle.capi.proofs.wrackbasket_translate.Goals as goal
 
 pub returns : goal.returns
