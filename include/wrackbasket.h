@@ -1,4 +1,4 @@
-/* Wrackbasket for C: the calls of the crate `capi`, whose promises are proved.
+/* Wrackbasket for C: the calls of the crate `capi`, whose promises are proved; `capi_c` exports them.
  *
  * A pointer is never null, also where its length is 0, and what is lent for writing overlaps nothing else. Nothing that
  * is handed in makes a call stop, stray or run on. A refused call leaves every lent byte as it was.
@@ -9,7 +9,7 @@
  * (step), 7 more than 63 cells (0), 8 a state that the rules cannot reach (0), 9 a word out of range (0), 10 a table
  * buffer under 12 bytes a cell (0).
  *
- * Build: rt staticlib capi, then link target/staticlib/libcapi.a. */
+ * Build: bench/archive, then link target/staticlib/libcapi.a. */
 #ifndef WRACKBASKET_H
 #define WRACKBASKET_H
 
