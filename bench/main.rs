@@ -2,7 +2,7 @@
 //!
 //! `--table` prints the table that the Rust side makes of the recorder's sheet, in the lines of `examples/translate.c`.
 //!
-//! There is no `main` of Rust's own: a program that goes through its start-up does not run under the kit's emulator.
+//! There is no `main` of Rust's own, so that the program starts as one in C does.
 #![no_main]
 
 #[path = "../rust/src/paper/mod.rs"]
