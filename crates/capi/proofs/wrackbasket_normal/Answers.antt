@@ -11,16 +11,26 @@ use Rattle.capi.proofs.wrackbasket_normal.Goals as goal
 pub returns-then-reading-ne0 : goal.returns-then-reading-ne0
 unfolding reading
 returns-then-reading-ne0 c =
-    let start = c.args in
+    let image = c.args.image.now in
+    let buffer = c.args.buffer.now in
     let number = ap (λ (r : Reading). r.verdict.number) c.read-reading.ensures in
-    let bad : ¬ ((image_verdict start.image.now).number ≡ 0) = λ zero. c.if-reading-ne0.true (number ∙ zero) in
-    let refused = normal_refused start.image.now start.buffer.now bad in record { value = c.packed.ensures ∙ ap (λ (r : Reading). packed_verdict r.verdict) c.read-reading.ensures ∙ ap packed_verdict (sym refused); buffer_after = sym (normal_kept start.image.now start.buffer.now (λ zero. bad (sym (ap (λ (v : Verdict). v.number) refused) ∙ zero))) }
+    let bad : ¬ ((image_verdict image).number ≡ 0) = λ zero. c.if-reading-ne0.true (number ∙ zero) in
+    let refused = normal_refused image buffer bad in
+    let kept = normal_kept image buffer (λ zero. bad (sym (ap (λ (v : Verdict). v.number) refused) ∙ zero)) in
+    record {
+      value = c.packed.ensures ∙ ap (λ (r : Reading). packed_verdict r.verdict) c.read-reading.ensures ∙ ap packed_verdict (sym refused);
+      buffer_after = sym kept;
+    }
 
 pub returns : goal.returns
 unfolding reading
 returns c =
-    let start = c.args in
-    let image = start.image.now in
+    let image = c.args.image.now in
+    let buffer = c.args.buffer.now in
     let good : (image_verdict image).number ≡ 0 = sym (ap (λ (r : Reading). r.verdict.number) c.read-reading.ensures) ∙ c.if-reading-ne0.false in
-    let taken = normal_taken image start.buffer.now (λ i. (c.shared_slice_known-1.given i).fits) good in
-    let wrote = c.write.ensures in record { value = c.packed-2.ensures ∙ ap packed_verdict (wrote.value ∙ ap (λ (r : Reading). write_verdict r.settings start.buffer.now) c.read-reading.ensures ∙ sym taken.0); buffer_after = wrote.buffer_after ∙ ap (λ (r : Reading). written r.settings start.buffer.now) c.read-reading.ensures ∙ sym taken.1 }
+    let taken = normal_taken image buffer (λ i. (c.type_inv.image i).fits) good in
+    let verdict = c.write.ensures.value ∙ ap (λ (r : Reading). write_verdict r.settings buffer) c.read-reading.ensures ∙ sym taken.0 in
+    record {
+      value = c.packed-2.ensures ∙ ap packed_verdict verdict;
+      buffer_after = c.write.ensures.buffer_after ∙ ap (λ (r : Reading). written r.settings buffer) c.read-reading.ensures ∙ sym taken.1;
+    }

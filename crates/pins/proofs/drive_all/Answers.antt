@@ -1,5 +1,5 @@
 -- `pins::drive_all` meets its contract. The loop's invariant: the word has the bits of the first k pins.
--- The measure is how many pins are left. Assumes nothing.
+-- Assumes nothing.
 use mathlib.Core.Path.{◌≡◌, refl, ap, ◌∙◌}
 use native.Mathlib.Omega.{arith}
 use Rattle.records.specs.Words.{word_of}

@@ -1,6 +1,6 @@
 -- `pins::drive_all` meets its contract. The loop's invariant: the word has the bits of the first k pins.
--- The measure is how many pins are left. Assumes nothing.
-use Prim.Native.Nat.{◌-◌, ◌≤◌}
+-- Assumes nothing.
+use Prim.Native.Nat.{◌≤◌}
 use mathlib.Core.Path.{◌≡◌}
 use Rattle.records.specs.Words.{word_of}
 use Rattle.pins.proofs.PinLaws.{pin_at}
@@ -8,6 +8,3 @@ use Rattle.pins.proofs.drive_all.Given as goal
 
 abbrev pub invariant-loop-k : goal.invariant-loop-k
 invariant-loop-k l = (l.k ≤ 10) × (l.word ≡ word_of (pin_at l.settings l.outputs) l.k)
-
-abbrev pub decreases-loop-k : goal.decreases-loop-k
-decreases-loop-k l = 10 - l.k

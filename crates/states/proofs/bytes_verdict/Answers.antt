@@ -1,5 +1,4 @@
 -- `states::bytes_verdict` meets its contract: its two tests are the definition's. Assumes nothing.
--- the bytes that the code read are those of the definition
 use mathlib.Core.Path.{refl, ap}
 use mathlib.Core.Bool.{Bool}
 use native.Mathlib.Omega.{arith}

@@ -1,5 +1,5 @@
 -- `channels::sampling::Channel::run` meets its contract. The loop's invariant: `after` is the channel after i frames, and `before` after one less.
--- The measure is how many frames are left. Assumes nothing.
+-- Assumes nothing.
 use Prim.Native.Nat.{◌+◌, ◌-◌}
 use mathlib.Core.Path.{◌≡◌, refl, ap, ◌∙◌}
 use native.Mathlib.Omega.{arith}

@@ -1,6 +1,6 @@
 -- `detectors::advancing::advance` meets its contract. The loop's invariant: the first k channels have run, the others stand as they came, and the words have their bits.
--- The measure is how many channels are left. Assumes nothing.
-use Prim.Native.Nat.{◌-◌, ◌≤◌}
+-- Assumes nothing.
+use Prim.Native.Nat.{◌≤◌}
 use mathlib.Core.Path.{◌≡◌}
 use mathlib.Core.List.{◌++◌}
 use lib.ListN.{drop}
@@ -14,6 +14,3 @@ invariant-loop-k l =
     (l.k ≤ 10)
     × ((l.after.channels ≡ each (λ j. (ran_at l.settings l.frames l.bank l.n j).channel) 0 l.k ++ drop l.k l.bank.channels)
     × ((l.faults ≡ word_of (λ j. (ran_at l.settings l.frames l.bank l.n j).fault) l.k) × (l.warnings ≡ word_of (λ j. (ran_at l.settings l.frames l.bank l.n j).warning) l.k)))
-
-abbrev pub decreases-loop-k : goal.decreases-loop-k
-decreases-loop-k l = 10 - l.k

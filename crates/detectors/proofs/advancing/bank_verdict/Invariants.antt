@@ -1,6 +1,6 @@
 -- `detectors::advancing::bank_verdict` meets its contract. The loop's invariant: the channels that are left give the whole answer.
--- The measure is how many are left. Assumes nothing.
-use Prim.Native.Nat.{ℕ, ◌-◌}
+-- Assumes nothing.
+use Prim.Native.Nat.{ℕ}
 use Rattle.records.specs.Numbers.{unreachable}
 use Rattle.records.proofs.VerdictLaws.{Searched, flagged}
 use Rattle.detectors.specs.Bank.{bank_verdict}
@@ -9,6 +9,3 @@ use Rattle.detectors.proofs.advancing.bank_verdict.Given as goal
 
 abbrev pub invariant-loop-k : goal.invariant-loop-k
 invariant-loop-k l = Searched (bank_verdict l.settings l.bank) (flagged (channel_flag l.settings l.bank) unreachable (λ (j : ℕ). j)) 10 l.k
-
-abbrev pub decreases-loop-k : goal.decreases-loop-k
-decreases-loop-k l = 10 - l.k

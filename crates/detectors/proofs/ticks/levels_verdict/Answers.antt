@@ -1,5 +1,5 @@
 -- `detectors::ticks::levels_verdict` meets its contract. The loop's invariant: the frames that are left give the whole answer.
--- The measure is how many are left. Assumes nothing.
+-- Assumes nothing.
 use mathlib.Core.Path.{refl, ◌∙◌}
 use native.Mathlib.Omega.{arith}
 use borrow.Author.Tests.{lt-ltb, le-ltb}

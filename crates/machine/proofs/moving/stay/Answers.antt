@@ -14,7 +14,7 @@ below node elapsed present early = leb-false node.timeout (elapsed + 1) (rw (ne_
 
 pub overflow_add-elapsed : goal.overflow_add-elapsed
 overflow_add-elapsed c =
-    omega (arith, below c.args.node c.args.state.elapsed c.if-node-eq0.false c.requires, c.struct_known-1.given)
+    omega (arith, below c.args.node c.args.state.elapsed c.if-node-eq0.false c.requires)
 
 pub returns-then-node-eq0 : goal.returns-then-node-eq0
 unfolding stay

@@ -1,5 +1,4 @@
 -- `reading::reader::image_verdict` meets its contract: what is left of the groups' tests gives the whole answer. Assumes nothing.
-use Prim.Native.Nat.{◌-◌}
 use Rattle.records.proofs.VerdictLaws.{Searched}
 use Rattle.image.specs.Reading.{image_verdict}
 use Rattle.reading.proofs.ReadingLaws.{group_test}
@@ -7,6 +6,3 @@ use Rattle.reading.proofs.reader.image_verdict.Given as goal
 
 abbrev pub invariant-loop-k : goal.invariant-loop-k
 invariant-loop-k l = Searched (image_verdict l.image) (group_test l.image) 10 l.k
-
-abbrev pub decreases-loop-k : goal.decreases-loop-k
-decreases-loop-k l = 10 - l.k

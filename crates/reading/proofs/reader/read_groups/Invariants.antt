@@ -1,5 +1,5 @@
 -- `reading::reader::read_groups` meets its contract: each turn reads one more group from its part. Assumes nothing.
-use Prim.Native.Nat.{◌-◌, ◌≤◌}
+use Prim.Native.Nat.{◌≤◌}
 use mathlib.Core.Path.{◌≡◌}
 use mathlib.Core.List.{◌++◌}
 use lib.ListN.{drop}
@@ -9,6 +9,3 @@ use Rattle.reading.proofs.reader.read_groups.Given as goal
 
 abbrev pub invariant-loop-k : goal.invariant-loop-k
 invariant-loop-k l = (l.k ≤ 10) × (l.groups ≡ each (group_at l.image) 0 l.k ++ drop l.k l.initial.groups)
-
-abbrev pub decreases-loop-k : goal.decreases-loop-k
-decreases-loop-k l = 10 - l.k

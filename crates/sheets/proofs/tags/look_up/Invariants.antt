@@ -1,5 +1,4 @@
 -- `sheets::tags::look_up` meets its contract. The invariant: the steps from k on give the whole look-up. Assumes nothing.
-use Prim.Native.Nat.{◌-◌}
 use mathlib.Core.Path.{◌≡◌}
 use Rattle.records.proofs.TagSearch.{LookedUp}
 use Rattle.steps.specs.Steps.{step_count}
@@ -7,6 +6,3 @@ use Rattle.sheets.proofs.tags.look_up.Given as goal
 
 abbrev pub invariant-loop-k : goal.invariant-loop-k
 invariant-loop-k l = LookedUp 16 l.sheet l.wanted (step_count l.sheet) l.k × (l.steps ≡ step_count l.sheet)
-
-abbrev pub decreases-loop-k : goal.decreases-loop-k
-decreases-loop-k l = l.steps - l.k

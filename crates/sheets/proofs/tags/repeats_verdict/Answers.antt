@@ -1,6 +1,5 @@
 -- `sheets::tags::repeats_verdict` meets its contract. The outer invariant: the steps from `later` on give the whole verdict; the inner one: no step
 -- before `earlier` has the tag of `later`. Left by the label, an earlier step has it. Assumes nothing.
--- no earlier step has the tag of step j
 use Rattle.std.specs.Bool.{◌==◌}
 use mathlib.Core.Path.{◌≡◌, refl, ap, sym, ◌∙◌}
 use mathlib.Core.Bool.{Bool, not}

@@ -1,6 +1,5 @@
 -- `sheets::tags::repeats_verdict` meets its contract. The outer invariant: the steps from `later` on give the whole verdict; the inner one: no step
 -- before `earlier` has the tag of `later`. Left by the label, an earlier step has it. Assumes nothing.
--- no earlier step has the tag of step j
 use Prim.Native.Nat.{ℕ, ◌-◌, ◌≤◌}
 use mathlib.Core.Path.{◌≡◌}
 use mathlib.Core.Bool.{Bool, false, not}
@@ -11,6 +10,7 @@ use Rattle.records.proofs.VerdictLaws.{Searched}
 use Rattle.sheets.specs.Sheets.{repeats_verdict}
 use Rattle.sheets.proofs.tags.repeats_verdict.Given as goal
 
+-- no earlier step has the tag of step j
 abbrev pub fresh : List ℕ → ℕ → Bool
 fresh sheet j = not (repeats 16 sheet j)
 

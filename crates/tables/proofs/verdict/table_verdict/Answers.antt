@@ -2,7 +2,6 @@
 use mathlib.Core.Path.{refl, sym, ◌∙◌}
 use native.Mathlib.Omega.{arith}
 use lib.ListN.{length}
-use borrow.Author.Tests.{not-true, not-false}
 use Rattle.records.proofs.ReturnLaws.{test_refuses, test_passes}
 use Rattle.records.proofs.TestLaws.{whole_test}
 use Rattle.records.proofs.VerdictLaws.{searched_none, searched_pass, searched_hit, searched_end}
@@ -12,16 +11,16 @@ use Rattle.tables.proofs.verdict.table_verdict.Goals as goal
 
 pub overflow_cast-cells : goal.overflow_cast-cells
 unfolding is_table
-overflow_cast-cells c = omega (arith, ((whole_test 12 (length c.args.table.now)).0 (sym c.is_table.ensures ∙ not-false _ c.if-not-is_table.false-raw)).most)
+overflow_cast-cells c = omega (arith, ((whole_test 12 (length c.args.table.now)).0 (sym c.is_table.ensures ∙ c.if-not-is_table.false)).most)
 
 pub returns-then-not-is_table : goal.returns-then-not-is_table
 unfolding table_verdict
 returns-then-not-is_table c =
-    test_refuses _ (is_table _) 1 0 (λ z. omega arith) (sym c.is_table.ensures ∙ not-true _ c.if-not-is_table.true-raw) c.refused.ensures
+    test_refuses _ (is_table _) 1 0 (λ z. omega arith) (sym c.is_table.ensures ∙ c.if-not-is_table.true) c.refused.ensures
 
 pub loop-k-init : goal.loop-k-init
 unfolding table_verdict cell_count
-loop-k-init c = searched_none refl (sym (test_passes _ _ 1 0 (sym c.is_table.ensures ∙ not-false _ c.if-not-is_table.false-raw) refl))
+loop-k-init c = searched_none refl (sym (test_passes _ _ 1 0 (sym c.is_table.ensures ∙ c.if-not-is_table.false) refl))
 
 pub returns-then-verdict-ne0 : goal.returns-then-verdict-ne0
 returns-then-verdict-ne0 c =

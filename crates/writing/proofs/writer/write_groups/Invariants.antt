@@ -1,5 +1,5 @@
 -- `writing::writer::write_groups` meets its contract: each turn lends the part of one more group, whose bytes are the encoder's. Assumes nothing.
-use Prim.Native.Nat.{◌-◌, ◌*◌, ◌≤◌}
+use Prim.Native.Nat.{◌*◌, ◌≤◌}
 use mathlib.Core.Path.{◌≡◌}
 use mathlib.Core.List.{◌++◌}
 use lib.ListN.{length, drop}
@@ -10,6 +10,3 @@ use Rattle.writing.proofs.writer.write_groups.Given as goal
 abbrev pub invariant-loop-k : goal.invariant-loop-k
 invariant-loop-k l =
     (l.k ≤ 10) × (length l.groups ≡ 10) × (length l.buffer ≡ 80) × (l.buffer ≡ each (byte_at (record { groups = l.groups })) 0 (8 * l.k) ++ drop (8 * l.k) l.initial.buffer)
-
-abbrev pub decreases-loop-k : goal.decreases-loop-k
-decreases-loop-k l = 10 - l.k
