@@ -9,7 +9,7 @@ use Rattle.records.specs.declared.Verdict.{Verdict}
 use Rattle.records.proofs.VerdictLaws.{first_tested, first_last}
 use Rattle.machine.specs.Fields.{word_in_range}
 use Rattle.machine.specs.declared.Node.{Node}
-use Rattle.machine.specs.declared.Standing.{Standing}
+use Rattle.machine.specs.Answers.{Standing}
 use Rattle.machine.specs.declared.State.{State}
 use Rattle.engine.specs.declared.Ticked.{Ticked}
 use Rattle.engine.specs.declared.ticking.Went.{Went}

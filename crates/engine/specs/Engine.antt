@@ -7,7 +7,7 @@ use Rattle.machine.specs.Fields.{word_in_range, elapsed_in_range}
 use Rattle.machine.specs.Machine.{tick_at}
 use Rattle.machine.specs.declared.Exit.TheVariants.{Stay}
 use Rattle.machine.specs.declared.Node.{Node}
-use Rattle.machine.specs.declared.Standing.{Standing}
+use Rattle.machine.specs.Answers.{Standing}
 use Rattle.machine.specs.declared.State.{State}
 use Rattle.machine.specs.declared.Taken.{Taken}
 use Rattle.tables.specs.Tables.{cell_at, cell_count, cell_verdict}

@@ -8,18 +8,27 @@ mod moving;
 
 ghost use Rattle.std.specs.Prelude.{◌≡◌};
 ghost use Rattle.machine.specs.Machine.{exit_number};
+ghost use Rattle.machine.specs.Answers.{fault_number};
 
 pub use moving::{elapsed_in_range, start, tick};
-use records::Verdict;
+use records::Numbered;
 
-// The kinds of fault that a field may have, as specs/Fields.antt names them.
-pub const RANGE: u8 = 12;
+// The kinds of fault that a field may have.
+#[derive(Clone, Copy, Debug, PartialEq, Eq)]
+pub enum Fault {
+    Range,
+    JumpWithoutExit,
+    ExitWithoutJump,
+    LevelWithoutChannel,
+}
 
-pub const JUMP_WITHOUT_EXIT: u8 = 13;
+impl Numbered for Fault {
+    ghost number = { fault_number };
 
-pub const EXIT_WITHOUT_JUMP: u8 = 14;
-
-pub const LEVEL_WITHOUT_CHANNEL: u8 = 15;
+    fn number(self) -> u8 {
+        12 + self as u8
+    }
+}
 
 // A step or a cell, its exits leading to the numbers of other steps or cells.
 #[derive(Clone, Copy)]
@@ -35,13 +44,6 @@ pub struct Node {
     pub step: u8,
 }
 
-// A node, and the verdict on standing at it.
-#[derive(Clone, Copy)]
-pub struct Standing {
-    pub verdict: Verdict,
-    pub node: Node,
-}
-
 // "Exit taken (1 byte: 1 fault, 2 sequence, 3 timeout)", and 0 where none is.
 #[derive(Clone, Copy)]
 pub enum Exit {
@@ -55,12 +57,7 @@ impl Exit {
     pub fn number(self) -> u8
         ensures { result ≡ exit_number self }
     {
-        match self {
-            Exit::Stay => 0,
-            Exit::Fault => 1,
-            Exit::Sequence => 2,
-            Exit::Timeout => 3,
-        }
+        self as u8
     }
 }
 

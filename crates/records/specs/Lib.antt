@@ -4,3 +4,4 @@ pub mod Bits
 pub mod Words
 pub mod Lists
 pub mod Tags
+pub mod Answers

@@ -1,36 +1,63 @@
-// What every other crate stands on: the paper's numbers and verdicts, and the definitions and laws of bits,
+// What every other crate stands on: the paper's numbers and refusals, and the definitions and laws of bits,
 // words, lists and tags.
 //
 // Every function is total: its definition in specs/ gives a value for every argument of its type.
 #![tactic(auto)]
 
-ghost use Rattle.std.specs.Prelude.{◌≡◌};
-ghost use Rattle.records.specs.Verdicts.{or_else, refused_unless, accepted, refused};
+ghost use Rattle.std.specs.Prelude.{◌≡◌, ℕ};
+ghost use Rattle.records.specs.Verdicts.{accepted, refused, refused_unless};
+ghost use Rattle.records.specs.Answers.{number_of, verdict_by};
 
-// "Numbers given back", as specs/Numbers.antt names them.
-pub const ACCEPTED: u8 = 0;
+// A kind that a number of a list stands for.
+pub trait Numbered: Copy {
+    ghost number: { Self → ℕ };
 
-pub const WRONG_LENGTH: u8 = 1;
+    fn number(self) -> u8
+        ensures { result ≡ number self };
+}
 
-pub const RESERVED: u8 = 2;
+// "Numbers given back", but for 0, which is no refusal.
+#[derive(Clone, Copy, Debug, PartialEq, Eq)]
+pub enum Number {
+    WrongLength,
+    Reserved,
+    Unprinted,
+    OutOfRange,
+    RepeatedTag,
+    UnknownTag,
+    TooManyCells,
+    Unreachable,
+    BadWord,
+    NoRoom,
+}
 
-pub const UNPRINTED: u8 = 3;
+impl Numbered for Number {
+    ghost number = { number_of };
 
-pub const OUT_OF_RANGE: u8 = 4;
+    fn number(self) -> u8 {
+        self as u8 + 1
+    }
+}
 
-pub const REPEATED_TAG: u8 = 5;
+// Why a call is refused, and the place at fault.
+#[derive(Clone, Copy, Debug, PartialEq, Eq)]
+pub struct Refusal<K = Number> {
+    pub kind: K,
+    pub place: usize,
+}
 
-pub const UNKNOWN_TAG: u8 = 6;
+// The kind at the place, unless the test holds.
+pub fn ensure<K: Numbered>(holds: bool, kind: K, place: usize) -> Result<(), Refusal<K>>
+    ensures { verdict_by K.number result ≡ refused_unless holds (K.number kind) place }
+{
+    if holds {
+        Ok(())
+    } else {
+        Err(Refusal { kind, place })
+    }
+}
 
-pub const TOO_MANY_CELLS: u8 = 7;
-
-pub const UNREACHABLE: u8 = 8;
-
-pub const BAD_WORD: u8 = 9;
-
-pub const NO_ROOM: u8 = 10;
-
-// A number of the paper's list with its place; tests are joined in their order.
+// A number of the paper's list with its place, as C and the programs' lines have it.
 #[derive(Clone, Copy)]
 pub struct Verdict {
     pub number: u8,
@@ -50,25 +77,13 @@ pub fn refused(number: u8, place: usize) -> Verdict
 }
 
 impl Verdict {
-    // The verdict so far where it refuses; else the next test: the number at the place unless it holds.
-    #[tactic(auto, unfolding(crate::specs::Verdicts::or_else))]
-    pub fn unless(self, holds: bool, number: u8, place: usize) -> Verdict
-        ensures { result ≡ or_else self (refused_unless holds number place) }
+    // What a call answered, with nothing of its value.
+    pub fn of<T: Copy, K: Numbered>(answer: Result<T, Refusal<K>>) -> Verdict
+        ensures { result ≡ verdict_by K.number answer }
     {
-        if self.number != 0 {
-            return self;
+        match answer {
+            Ok(_) => accepted(),
+            Err(refusal) => refused(refusal.kind.number(), refusal.place),
         }
-        if holds {
-            return accepted();
-        }
-        refused(number, place)
-    }
-
-    // The verdict so far where it refuses; else the other.
-    #[tactic(auto, unfolding(crate::specs::Verdicts::or_else))]
-    pub fn then(self, other: Verdict) -> Verdict
-        ensures { result ≡ or_else self other }
-    {
-        if self.number == 0 { other } else { self }
     }
 }

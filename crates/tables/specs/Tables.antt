@@ -7,7 +7,7 @@ use Rattle.records.specs.Verdicts.{refused_unless, first_refusal}
 use Rattle.records.specs.declared.Verdict.{Verdict}
 use Rattle.machine.specs.Fields.{outputs_in_range, mask_in_range, channel_in_range, level_in_range, level_allowed, range_fault, jump_without_exit, level_without_channel}
 use Rattle.machine.specs.declared.Node.{Node}
-use Rattle.machine.specs.declared.Standing.{Standing}
+use Rattle.machine.specs.Answers.{Standing}
 
 -- ---- bytes
 

@@ -1,10 +1,11 @@
 // A cell's bytes: outputs (2), mask (2), fault next, channel, level, sequence next, timeout (2),
 // timeout next, step.
 ghost use Rattle.std.specs.Prelude.{◌≡◌};
+ghost use Rattle.records.specs.Answers.{verdict_of};
 ghost use Rattle.tables.specs.Tables.{cell_at, cell_bytes, cell_written, part_verdict};
 
 use machine::Node;
-use records::{Verdict, WRONG_LENGTH, accepted, refused};
+use records::{Number, Refusal, ensure};
 use words::{byte_at, copy, word_at};
 
 // The cell with a number. A byte past the table's end counts as 0.
@@ -26,15 +27,14 @@ pub fn cell_at(table: &[u8], k: u8) -> Node
 }
 
 // Writes a cell into the twelve bytes lent for it. A part of any other length is refused, and kept.
-pub fn write_cell(cell: Node, part: &mut [u8]) -> Verdict
-    ensures value { result ≡ part_verdict part.old }
+#[tactic(auto, unfolding(crate::specs::Tables::part_verdict, crate::specs::Tables::cell_written))]
+pub fn write_cell(cell: Node, part: &mut [u8]) -> Result<(), Refusal>
+    ensures value { verdict_of result ≡ part_verdict part.old }
     ensures part_after { part.new ≡ cell_written cell part.old }
 {
-    if part.len() != 12 {
-        return refused(WRONG_LENGTH, 0);
-    }
+    ensure(part.len() == 12, Number::WrongLength, 0)?;
     copy(&cell_bytes(cell), part);
-    accepted()
+    Ok(())
 }
 
 fn cell_bytes(cell: Node) -> [u8; 12]

@@ -1,35 +1,37 @@
-// The tests of a cell's fields: each verdict has the kind of fault as number, and the field's offset in the cell as place.
+// The tests of a cell's fields: each refusal has the kind of fault, and the field's offset in the cell as place.
 ghost use Rattle.std.specs.Prelude.{◌≡◌};
+ghost use Rattle.records.specs.Answers.{verdict_by};
+ghost use Rattle.machine.specs.Answers.{fault_number};
 ghost use Rattle.tables.specs.Tables.{cell_fault, next_fault};
 
-use machine::{JUMP_WITHOUT_EXIT, LEVEL_WITHOUT_CHANNEL, Node, RANGE};
-use records::{Verdict, accepted};
+use machine::{Fault, Node};
+use records::{Refusal, ensure};
 
-pub(crate) fn cell_fault(cells: usize, cell: Node) -> Verdict
-    ensures { result ≡ cell_fault cells cell }
+#[tactic(auto, using(records::proofs::ReturnLaws::tests), unfolding(crate::specs::Tables::cell_fault, machine::specs::Fields::outputs_in_range, machine::specs::Fields::mask_in_range, machine::specs::Fields::channel_in_range, machine::specs::Fields::level_in_range, machine::specs::Fields::level_allowed))]
+pub(crate) fn cell_fault(cells: usize, cell: Node) -> Result<(), Refusal<Fault>>
+    ensures { verdict_by fault_number result ≡ cell_fault cells cell }
 {
-    accepted()
-        .unless(cell.outputs < 1024, RANGE, 0)
-        .unless(cell.mask < 1024, RANGE, 2)
-        .then(next_fault(cells, cell.mask != 0, cell.faultto, 4))
-        .unless(cell.channel <= 10, RANGE, 5)
-        .unless(cell.level <= 1, RANGE, 6)
-        .unless(
-            (cell.channel != 0) | (cell.level == 0),
-            LEVEL_WITHOUT_CHANNEL,
-            6,
-        )
-        .then(next_fault(cells, cell.channel != 0, cell.sequenceto, 7))
-        .unless(cell.timeout <= 4000, RANGE, 8)
-        .then(next_fault(cells, cell.timeout != 0, cell.timeoutto, 10))
-        .unless(cell.step <= 62, RANGE, 11)
+    ensure(cell.outputs < 1024, Fault::Range, 0)?;
+    ensure(cell.mask < 1024, Fault::Range, 2)?;
+    next_fault(cells, cell.mask != 0, cell.faultto, 4)?;
+    ensure(cell.channel <= 10, Fault::Range, 5)?;
+    ensure(cell.level <= 1, Fault::Range, 6)?;
+    ensure(
+        (cell.channel != 0) | (cell.level == 0),
+        Fault::LevelWithoutChannel,
+        6,
+    )?;
+    next_fault(cells, cell.channel != 0, cell.sequenceto, 7)?;
+    ensure(cell.timeout <= 4000, Fault::Range, 8)?;
+    next_fault(cells, cell.timeout != 0, cell.timeoutto, 10)?;
+    ensure(cell.step <= 62, Fault::Range, 11)
 }
 
 // "Next below the number of cells, and 0 where the exit is absent."
-fn next_fault(cells: usize, present: bool, next: u8, offset: usize) -> Verdict
-    ensures { result ≡ next_fault cells present next offset }
+#[tactic(auto, using(records::proofs::ReturnLaws::tests), unfolding(crate::specs::Tables::next_fault))]
+fn next_fault(cells: usize, present: bool, next: u8, offset: usize) -> Result<(), Refusal<Fault>>
+    ensures { verdict_by fault_number result ≡ next_fault cells present next offset }
 {
-    accepted()
-        .unless((next as usize) < cells, RANGE, offset)
-        .unless(present | (next == 0), JUMP_WITHOUT_EXIT, offset)
+    ensure((next as usize) < cells, Fault::Range, offset)?;
+    ensure(present | (next == 0), Fault::JumpWithoutExit, offset)
 }

@@ -1,42 +1,36 @@
-// The verdict of one cell and of the whole table.
-ghost use Rattle.std.specs.Prelude.{◌≡◌, eqb};
-ghost use Rattle.records.specs.Numbers.{out_of_range};
-ghost use Rattle.records.specs.Verdicts.{refused_unless};
-ghost use Rattle.tables.specs.Tables.{is_table, cell_fault, cell_standing, table_verdict};
+// The tests of one cell and of the whole table.
+ghost use Rattle.std.specs.Prelude.{◌≡◌, IfOk};
+ghost use Rattle.records.specs.Answers.{verdict_of};
+ghost use Rattle.machine.specs.Answers.{as_standing};
+ghost use Rattle.tables.specs.Tables.{is_table, cell_at, fields_verdict, cell_standing, table_verdict};
 
-use crate::{cell, fields};
-use machine::{Node, Standing};
-use records::{OUT_OF_RANGE, UNREACHABLE, Verdict, WRONG_LENGTH, accepted, refused};
+use crate::cell::cell_at;
+use crate::fields;
+use machine::Node;
+use records::{Number, Refusal, ensure};
 
-// A cell, and the verdict on standing at it: the length, the cell's number, then number 4 at a cell with a field out of
+// A cell at which the engine may stand: the length, the cell's number, then number 4 at a cell with a field out of
 // its range.
-pub fn cell_standing(table: &[u8], k: u8) -> Standing
-    ensures { result ≡ cell_standing table.now k }
+#[tactic(auto, using(records::proofs::ReturnLaws::tests), unfolding(crate::specs::Tables::cell_standing, crate::specs::Tables::cell_verdict, crate::specs::Tables::cell_tests, crate::specs::Tables::cell_count))]
+pub fn cell_standing(table: &[u8], k: u8) -> Result<Node, Refusal>
+    ensures { as_standing (cell_at table.now k) result ≡ cell_standing table.now k }
 {
-    let node = cell::cell_at(table, k);
-    let cells = table.len() / 12;
-    let verdict = accepted()
-        .unless(is_table(table), WRONG_LENGTH, 0)
-        .unless((k as usize) < cells, UNREACHABLE, 0)
-        .then(fields_verdict(cells, node, k));
-    Standing { verdict, node }
+    ensure(is_table(table), Number::WrongLength, 0)?;
+    ensure((k as usize) < table.len() / 12, Number::Unreachable, 0)?;
+    sound_cell(table, k)
 }
 
 // The length, then every cell; the lowest bad cell is named.
-pub fn table_verdict(table: &[u8]) -> Verdict
-    ensures { result ≡ table_verdict table.now }
+#[tactic(auto, using(records::proofs::ReturnLaws::tests, records::proofs::ReturnLaws::loops), unfolding(crate::specs::Tables::table_verdict, crate::specs::Tables::cell_count))]
+pub fn table_verdict(table: &[u8]) -> Result<(), Refusal>
+    ensures { verdict_of result ≡ table_verdict table.now }
 {
-    if !is_table(table) {
-        return refused(WRONG_LENGTH, 0);
-    }
+    ensure(is_table(table), Number::WrongLength, 0)?;
     let cells = (table.len() / 12) as u8;
     for k in 0..cells {
-        let verdict = fields_verdict(cells as usize, cell::cell_at(table, k), k);
-        if verdict.number != 0 {
-            return verdict;
-        }
+        sound_cell(table, k)?;
     }
-    accepted()
+    Ok(())
 }
 
 // 1 to 63 cells of 12 bytes.
@@ -47,10 +41,14 @@ fn is_table(table: &[u8]) -> bool
     (12 <= length) & (length <= 756) & (length % 12 == 0)
 }
 
-// Number 4 at k where cell k of so many has a field out of its range.
-fn fields_verdict(cells: usize, cell: Node, k: u8) -> Verdict
-    ensures { result ≡ refused_unless (eqb (cell_fault cells cell).number 0) out_of_range k }
+// Cell k, with no field out of its range.
+#[tactic(auto, unfolding(crate::specs::Tables::fields_verdict, crate::specs::Tables::cell_count))]
+fn sound_cell(table: &[u8], k: u8) -> Result<Node, Refusal>
+    ensures verdict { verdict_of result ≡ fields_verdict table.now k }
+    ensures cell { IfOk result (λ cell. cell ≡ cell_at table.now k) }
 {
-    let fault = fields::cell_fault(cells, cell);
-    accepted().unless(fault.number == 0, OUT_OF_RANGE, k as usize)
+    let cell = cell_at(table, k);
+    let sound = fields::cell_fault(table.len() / 12, cell).is_ok();
+    ensure(sound, Number::OutOfRange, k as usize)?;
+    Ok(cell)
 }

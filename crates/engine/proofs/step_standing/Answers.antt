@@ -7,7 +7,7 @@ use Rattle.records.specs.Verdicts.{refused_unless}
 use Rattle.records.specs.declared.Verdict.{Verdict}
 use Rattle.records.proofs.VerdictLaws.{first_tested, first_last}
 use Rattle.machine.specs.declared.Node.{Node}
-use Rattle.machine.specs.declared.Standing.{Standing}
+use Rattle.machine.specs.Answers.{Standing}
 use Rattle.engine.specs.Engine.{standing}
 use Rattle.engine.proofs.step_standing.Goals as goal
 
