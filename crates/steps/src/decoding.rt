@@ -7,6 +7,7 @@ use crate::Step;
 use words::{byte_at, word_at};
 
 // The step with a number. A byte past the sheet's end counts as 0.
+#[tactic(auto, unfolding(crate::specs::Steps::step_at))]
 pub fn step_at(sheet: &[u8], k: u8) -> Step
     ensures { result ≡ step_at sheet.now k }
 {
@@ -25,9 +26,9 @@ pub fn step_at(sheet: &[u8], k: u8) -> Step
 }
 
 // How many steps a sheet has, 63 at most.
+#[tactic(auto, unfolding(crate::specs::Steps::step_count))]
 pub fn step_count(sheet: &[u8]) -> u8
     ensures { result ≡ step_count sheet.now }
 {
-    let steps = sheet.len() / 16;
-    if steps < 63 { steps as u8 } else { 63 }
+    (sheet.len() / 16).min(63) as u8
 }
