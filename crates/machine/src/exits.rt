@@ -5,6 +5,7 @@ ghost use Rattle.machine.specs.Machine.{exit_of, met, due};
 use crate::{Exit, Node};
 use bit_fields::word_bit;
 
+#[tactic(auto, unfolding(crate::specs::Machine::exit_of, crate::specs::Machine::shares))]
 pub(crate) fn exit_of(node: Node, elapsed: u16, word: u16) -> Exit
     ensures { result ≡ exit_of node elapsed word }
 {
@@ -21,21 +22,17 @@ pub(crate) fn exit_of(node: Node, elapsed: u16, word: u16) -> Exit
 }
 
 // The channel's bit equals the level.
+#[tactic(auto, unfolding(crate::specs::Machine::met))]
 fn met(node: Node, word: u16) -> bool
     ensures { result ≡ met node word }
 {
-    if node.channel == 0 {
-        return false;
-    }
-    word_bit(word, node.channel - 1) == node.level
+    node.channel != 0 && word_bit(word, node.channel - 1) == node.level
 }
 
 // There is a timeout, and this tick reaches it.
+#[tactic(auto, unfolding(crate::specs::Machine::due))]
 fn due(node: Node, elapsed: u16) -> bool
     ensures { result ≡ due node elapsed }
 {
-    if node.timeout == 0 {
-        return false;
-    }
-    elapsed >= node.timeout - 1
+    node.timeout != 0 && elapsed >= node.timeout - 1
 }

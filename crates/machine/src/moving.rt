@@ -18,6 +18,7 @@ fn enter(to: u8) -> State
     State { at: to, elapsed: 0 }
 }
 
+#[tactic(auto, unfolding(crate::specs::Machine::stay, crate::specs::Machine::due))]
 fn stay(node: Node, state: State) -> State
     requires { due node state.elapsed ≡ false }
     ensures { result ≡ stay node state }
@@ -34,6 +35,7 @@ fn stay(node: Node, state: State) -> State
 }
 
 // One tick at a node with a word.
+#[tactic(auto, using(crate::proofs::ExitLaws::stay_not_due), unfolding(crate::specs::Machine::tick_at, crate::specs::Machine::after))]
 pub fn tick(node: Node, word: u16, state: State) -> Taken
     ensures { result ≡ tick_at node word state }
 {
@@ -48,11 +50,9 @@ pub fn tick(node: Node, word: u16, state: State) -> Taken
 }
 
 // Elapsed below the larger of 1 and the timeout.
+#[tactic(auto, unfolding(crate::specs::Fields::elapsed_in_range))]
 pub fn elapsed_in_range(timeout: u16, elapsed: u16) -> bool
     ensures { result ≡ elapsed_in_range timeout elapsed }
 {
-    if timeout < 1 {
-        return elapsed < 1;
-    }
-    elapsed < timeout
+    elapsed < timeout.max(1)
 }

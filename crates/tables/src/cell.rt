@@ -9,6 +9,7 @@ use records::{Number, Refusal, ensure};
 use words::{byte_at, copy, word_at};
 
 // The cell with a number. A byte past the table's end counts as 0.
+#[tactic(auto, unfolding(crate::specs::Tables::cell_at))]
 pub fn cell_at(table: &[u8], k: u8) -> Node
     ensures { result ≡ cell_at table.now k }
 {
@@ -37,20 +38,24 @@ pub fn write_cell(cell: Node, part: &mut [u8]) -> Result<(), Refusal>
     Ok(())
 }
 
+#[tactic(auto, unfolding(crate::specs::Tables::cell_bytes, records::specs::Words::low_byte, records::specs::Words::high_byte))]
 fn cell_bytes(cell: Node) -> [u8; 12]
     ensures { result ≡ cell_bytes cell }
 {
+    let [outputs, outputs_high] = cell.outputs.to_le_bytes();
+    let [mask, mask_high] = cell.mask.to_le_bytes();
+    let [timeout, timeout_high] = cell.timeout.to_le_bytes();
     [
-        (cell.outputs % 256) as u8,
-        (cell.outputs / 256) as u8,
-        (cell.mask % 256) as u8,
-        (cell.mask / 256) as u8,
+        outputs,
+        outputs_high,
+        mask,
+        mask_high,
         cell.faultto,
         cell.channel,
         cell.level,
         cell.sequenceto,
-        (cell.timeout % 256) as u8,
-        (cell.timeout / 256) as u8,
+        timeout,
+        timeout_high,
         cell.timeoutto,
         cell.step,
     ]

@@ -34,6 +34,7 @@ pub fn table_verdict(table: &[u8]) -> Result<(), Refusal>
 }
 
 // 1 to 63 cells of 12 bytes.
+#[tactic(auto, unfolding(crate::specs::Tables::is_table))]
 fn is_table(table: &[u8]) -> bool
     ensures { result ≡ is_table table.now }
 {
