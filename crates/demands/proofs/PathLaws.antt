@@ -6,7 +6,7 @@ use Rattle.records.proofs.Every.{Every, none, ◌also◌, every_map, Bytes}
 use Rattle.records.proofs.TestLaws.{lt_test, unless_passes, all_zero}
 use Rattle.records.proofs.VerdictLaws.{number_of}
 use Rattle.image.specs.Reading.{reading}
-use Rattle.image.specs.declared.Reading.{Reading}
+use Rattle.image.specs.Answers.{Reading}
 use Rattle.image.specs.declared.Settings.{Settings}
 use Rattle.writing.specs.Writing.{settings_verdict}
 use Rattle.pins.specs.Pins.{pins_verdict, driven}

@@ -1,9 +1,7 @@
 -- The tables of source 004 as the paper prints them: from a code to its meaning, and from a meaning to its lowest code. Assumes nothing.
-use Rattle.std.specs.Prelude.{ℕ, suc, Bool, cond, ◌||◌, not, List, [], ◌∷◌, ltb, eqb}
+use Rattle.std.specs.Prelude.{ℕ, suc, Bool, cond, ◌||◌, not, Option, Some, None, List, [], ◌∷◌, ltb, eqb}
 use Rattle.records.specs.Numbers.{accepted_number, out_of_range}
 use Rattle.image.specs.Groups.{is_vp, is_vh, is_vx}
-use Rattle.image.specs.declared.Code.{Code}
-use Rattle.image.specs.declared.Code.TheVariants.{Is, Lacking}
 use Rattle.image.specs.declared.FaultType.{FaultType}
 use Rattle.image.specs.declared.FaultType.TheVariants.{Over, UnderOrOver, Under, Off}
 use Rattle.image.specs.declared.Input.{Input}
@@ -14,20 +12,20 @@ use Rattle.image.specs.declared.Pull.{Pull}
 use Rattle.image.specs.declared.Pull.TheVariants.{Unpulled, Vddcap300k, WeakVp1, PushPullVp1, WeakVp2, PushPullVp2, WeakVp3, PushPullVp3, WeakVp4, PushPullVp4, WeakVddcap, PushPullVddcap}
 
 -- ---- what a look-up answers: a code, number 0; or that no code has the meaning, number 4 and code 0
-abbrev pub code_number : Code → ℕ
-code_number (Is code) = accepted_number
-code_number Lacking = out_of_range
+abbrev pub code_number : Option ℕ → ℕ
+code_number (Some code) = accepted_number
+code_number None = out_of_range
 
-abbrev pub code_value : Code → ℕ
-code_value (Is code) = code
-code_value Lacking = 0
+abbrev pub code_value : Option ℕ → ℕ
+code_value (Some code) = code
+code_value None = 0
 
 -- the lowest place, counted from i, at which a table has the value
-abbrev pub lookup_from : ℕ → List ℕ → ℕ → Code
-lookup_from i [] value = Lacking
-lookup_from i (x ∷ xs) value = cond (eqb x value) (Is i) (lookup_from (suc i) xs value)
+abbrev pub lookup_from : ℕ → List ℕ → ℕ → Option ℕ
+lookup_from i [] value = None
+lookup_from i (x ∷ xs) value = cond (eqb x value) (Some i) (lookup_from (suc i) xs value)
 
-abbrev pub lookup : List ℕ → ℕ → Code
+abbrev pub lookup : List ℕ → ℕ → Option ℕ
 lookup = lookup_from 0
 
 -- ---- times
@@ -63,16 +61,16 @@ abbrev pub functions : List Input
 functions = AnalogFault ∷ LogicFault ∷ LogicFaultAnalogWarning ∷ NoFunction ∷ []
 
 -- the code in its own group's table, lacking in any other group
-abbrev pub input_code : ℕ → Input → Code
-input_code k VpMid = cond (is_vp k) (Is 0) Lacking
-input_code k VpLow = cond (is_vp k) (Is 1) Lacking
-input_code k VpUltralow = cond (is_vp k) (Is 2) Lacking
-input_code k VhLow = cond (is_vh k) (Is 0) Lacking
-input_code k VhHigh = cond (is_vh k) (Is 1) Lacking
-input_code k AnalogFault = cond (is_vx k) (Is 0) Lacking
-input_code k LogicFault = cond (is_vx k) (Is 1) Lacking
-input_code k LogicFaultAnalogWarning = cond (is_vx k) (Is 2) Lacking
-input_code k NoFunction = cond (is_vx k) (Is 3) Lacking
+abbrev pub input_code : ℕ → Input → Option ℕ
+input_code k VpMid = cond (is_vp k) (Some 0) None
+input_code k VpLow = cond (is_vp k) (Some 1) None
+input_code k VpUltralow = cond (is_vp k) (Some 2) None
+input_code k VhLow = cond (is_vh k) (Some 0) None
+input_code k VhHigh = cond (is_vh k) (Some 1) None
+input_code k AnalogFault = cond (is_vx k) (Some 0) None
+input_code k LogicFault = cond (is_vx k) (Some 1) None
+input_code k LogicFaultAnalogWarning = cond (is_vx k) (Some 2) None
+input_code k NoFunction = cond (is_vx k) (Some 3) None
 
 -- ---- byte 7
 -- "Bits 6:4: 0 disabled, 1 engine, 2 low, 3 high; 4 to 7 are unprinted". Codes 4 to 7 have no meaning, and stand here as disabled

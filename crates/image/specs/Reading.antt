@@ -1,9 +1,12 @@
 -- What eighty bytes mean: whether they are accepted, and the settings. Assumes nothing.
-use Rattle.std.specs.Prelude.{ℕ, ◌+◌, ◌-◌, ◌*◌, ◌/◌, ◌%◌, Bool, true, false, cond, ◌&&◌, List, [], ◌∷◌, eqb, length, get_or}
+use Rattle.std.specs.Prelude.{ℕ, ◌+◌, ◌-◌, ◌*◌, ◌/◌, ◌%◌, Bool, true, false, cond, ◌&&◌, Result, Ok, Err, List, [], ◌∷◌, eqb, length, get_or}
 use Rattle.records.specs.Bits.{bits}
 use Rattle.records.specs.Lists.{each}
 use Rattle.records.specs.Numbers.{wrong_length, reserved, unprinted}
-use Rattle.records.specs.Verdicts.{refused_unless, first_refusal}
+use Rattle.records.specs.Verdicts.{accepted, refused_unless, first_refusal}
+use Rattle.records.specs.Answers.{verdict_of}
+use Rattle.records.specs.declared.Number.{Number}
+use Rattle.records.specs.declared.Refusal.{Refusal}
 use Rattle.records.specs.declared.Verdict.{Verdict}
 use Rattle.image.specs.Groups.{is_vp, is_vh, is_vx, part}
 use Rattle.image.specs.Codes.{times, pulses, fault_types, ranges, high_ranges, functions, sources, source_printed, pulls, pull_printed}
@@ -17,7 +20,7 @@ use Rattle.image.specs.declared.Logic.{Logic}
 use Rattle.image.specs.declared.Output.{Output}
 use Rattle.image.specs.declared.Group.{Group}
 use Rattle.image.specs.declared.Settings.{Settings}
-use Rattle.image.specs.declared.Reading.{Reading}
+use Rattle.image.specs.Answers.{Reading}
 
 -- ---- acceptance
 
@@ -134,3 +137,8 @@ reading image =
       verdict = image_verdict image;
       settings = cond (eqb (image_verdict image).number 0) (settings_of image) zero_settings;
     }
+
+-- the reader's answer field by field: the settings, or the refusal with the zero settings
+abbrev pub as_reading : Result Settings (Refusal Number) → Reading
+as_reading (Ok settings) = record { verdict = accepted; settings = settings }
+as_reading (Err refusal) = record { verdict = verdict_of {A = Settings} (Err refusal); settings = zero_settings }

@@ -2,7 +2,7 @@
 use mathlib.Core.Path.{◌≡◌, ap, sym, ◌∙◌}
 use Rattle.records.specs.declared.Verdict.{Verdict}
 use Rattle.image.specs.Reading.{image_verdict, reading}
-use Rattle.image.specs.declared.Reading.{Reading}
+use Rattle.image.specs.Answers.{Reading}
 use Rattle.writing.specs.Writing.{write_verdict, written}
 use Rattle.packing.specs.Packed.{packed_verdict}
 use Rattle.capi.proofs.CallLaws.{normal_refused, normal_kept, normal_taken}

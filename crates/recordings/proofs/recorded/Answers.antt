@@ -5,7 +5,7 @@ use lib.ListN.{length}
 use Prim.Native.Nat.{ℕ, ◌/◌}
 use Rattle.records.specs.declared.Verdict.{Verdict}
 use Rattle.image.specs.Reading.{image_verdict, reading}
-use Rattle.image.specs.declared.Reading.{Reading}
+use Rattle.image.specs.Answers.{Reading}
 use Rattle.image.specs.declared.Settings.{Settings}
 use Rattle.image.proofs.SettingsLaws.{settings_read}
 use Rattle.detectors.specs.Bank.{start_bank}
