@@ -4,7 +4,9 @@
 #![tactic(auto)]
 
 mod copying;
+mod whole;
 mod word;
 
 pub use copying::copy;
+pub use whole::is_whole;
 pub use word::{bit, byte_at, word_at};
