@@ -1,2 +1,1 @@
-pub mod ChannelLaws
 pub mod FrameLaws

@@ -1,72 +1,42 @@
 // What a channel's pins hold in a frame: ten samples by channel, then the logic levels. A byte past
-// the end of the frames counts as 0.
-ghost use Rattle.std.specs.Prelude.{◌-◌, ◌≡◌, get_or};
-ghost use Rattle.channels.specs.Frame.{frame_at, sample_at, level_at};
-ghost use Rattle.channels.specs.Frame.{measured};
+// the end of the frame counts as 0.
+ghost use Rattle.std.specs.Prelude.{◌≡◌};
+ghost use Rattle.channels.specs.Frame.{measured, level_at, sample_at};
 
 use crate::Sample;
 use bit_fields::field;
 use image::Input;
 use words::byte_at;
 
-// Of frame i, for channel k.
-pub(crate) fn sample(input: Input, frames: &[u8], i: usize, k: usize) -> Sample
-    ensures { result ≡ sample_at input (frame_at frames.now i) k }
+// Of one frame, for channel k.
+#[tactic(auto, unfolding(crate::specs::Frame::sample_at))]
+pub(crate) fn sample(input: Input, frame: &[u8], k: usize) -> Sample
+    ensures { result ≡ sample_at input frame.now k }
 {
-    let at = measured(input, k, sister(k));
     Sample {
-        value: frame_byte(frames, i, at),
-        level: level(frames, i, k),
+        value: byte_at(frame, measured(input, k)),
+        level: level(frame, k),
     }
 }
 
 // The channel whose sample is measured: under function 2 the sister's.
-fn measured(input: Input, k: usize, sister: usize) -> usize
-    requires { sister ≡ k - 5 }
+fn measured(input: Input, k: usize) -> usize
     ensures { result ≡ measured input k }
 {
     match input {
-        Input::VpMid => k,
-        Input::VpLow => k,
-        Input::VpUltralow => k,
-        Input::VhLow => k,
-        Input::VhHigh => k,
-        Input::AnalogFault => k,
-        Input::LogicFault => k,
-        Input::LogicFaultAnalogWarning => sister,
-        Input::NoFunction => k,
+        Input::LogicFaultAnalogWarning => k.saturating_sub(5),
+        _ => k,
     }
-}
-
-fn sister(k: usize) -> usize
-    ensures { result ≡ k - 5 }
-{
-    if k < 5 { 0 } else { k - 5 }
 }
 
 // VP and VH have no level, and a byte has eight bits.
-fn level(frames: &[u8], i: usize, k: usize) -> bool
-    ensures { result ≡ level_at (frame_at frames.now i) k }
+#[tactic(auto, unfolding(crate::specs::Frame::level_at))]
+fn level(frame: &[u8], k: usize) -> bool
+    ensures { result ≡ level_at frame.now k }
 {
-    if k < 5 {
+    let levels = byte_at(frame, 10);
+    let Some(low) = k.checked_sub(5) else {
         return false;
-    }
-    let low = k - 5;
-    let levels = frame_byte(frames, i, 10);
-    if low >= 8 {
-        return false;
-    }
-    field(levels, low as u8, 1) == 1
-}
-
-fn frame_byte(frames: &[u8], i: usize, at: usize) -> u8
-    ensures { result ≡ get_or (frame_at frames.now i) at 0 }
-{
-    if at >= 11 {
-        return 0;
-    }
-    if i > frames.len() / 11 {
-        return 0;
-    }
-    byte_at(&frames[11 * i..], at)
+    };
+    low < 8 && field(levels, low as u8, 1) == 1
 }

@@ -5,7 +5,8 @@
 mod frame;
 mod sampling;
 
-#[derive(Clone, Copy)]
+// "All state starts false and zero", as the default has it.
+#[derive(Clone, Copy, Default)]
 pub struct Channel {
     pub over: bool,
     pub under: bool,
@@ -14,7 +15,7 @@ pub struct Channel {
     pub left: u16,
 }
 
-#[derive(Clone, Copy)]
+#[derive(Clone, Copy, Default)]
 pub struct Filter {
     pub filtered: bool,
     pub count: u16,
