@@ -1,1 +1,2 @@
 pub mod AcceptedSheet
+pub mod TagSearch

@@ -1,45 +1,44 @@
 // Tags: the lowest step that repeats one, and the step that has one.
-ghost use Rattle.std.specs.Prelude.{◌≡◌};
+ghost use Rattle.std.specs.Prelude.{◌≡◌, ltb};
+ghost use Rattle.std.specs.Option.{is_some, unwrap_or};
+ghost use Rattle.records.specs.Answers.{verdict_of};
 ghost use Rattle.records.specs.Tags.{tag_at, look_up};
 ghost use Rattle.steps.specs.Steps.{step_count};
 ghost use Rattle.sheets.specs.Sheets.{repeats_verdict};
 
-use records::{REPEATED_TAG, Verdict, accepted};
+use records::{Number, Refusal};
 use steps::step_count;
 use words::word_at;
 
 // Number 5 at the lowest step whose tag an earlier step has.
-pub(crate) fn repeats_verdict(sheet: &[u8]) -> Verdict
-    ensures { result ≡ repeats_verdict sheet.now }
+pub(crate) fn repeats_verdict(sheet: &[u8]) -> Result<(), Refusal>
+    ensures { verdict_of result ≡ repeats_verdict sheet.now }
 {
     let steps = step_count(sheet);
-    let mut later = 0;
-    'search: while later < steps {
-        let mut earlier = 0;
-        while earlier < later {
+    let mut answer = Ok(());
+    'search: for later in 0..steps {
+        for earlier in 0..later {
             if tag(sheet, earlier) == tag(sheet, later) {
+                answer = Err(Refusal {
+                    kind: Number::RepeatedTag,
+                    place: later as usize,
+                });
                 break 'search;
             }
-            earlier += 1;
         }
-        later += 1;
     }
-    accepted().unless(later == steps, REPEATED_TAG, later as usize)
+    answer
 }
 
-// The lowest step with a tag; the number of steps where none has it.
-pub(crate) fn look_up(sheet: &[u8], wanted: u16) -> u8
-    ensures { result ≡ look_up 16 sheet.now (step_count sheet.now) wanted }
+// The lowest step with a tag, if some step has it.
+pub(crate) fn look_up(sheet: &[u8], wanted: u16) -> Option<u8>
+    ensures step { unwrap_or result (step_count sheet.now) ≡ look_up 16 sheet.now (step_count sheet.now) wanted }
+    ensures found { is_some result ≡ ltb (look_up 16 sheet.now (step_count sheet.now) wanted) (step_count sheet.now) }
 {
-    let steps = step_count(sheet);
-    for k in 0..steps {
-        if tag(sheet, k) == wanted {
-            return k;
-        }
-    }
-    steps
+    (0..step_count(sheet)).find(|k| tag(sheet, *k) == wanted)
 }
 
+#[tactic(auto, unfolding(records::specs::Tags::tag_at))]
 fn tag(sheet: &[u8], k: u8) -> u16
     ensures { result ≡ tag_at 16 sheet.now k }
 {

@@ -1,22 +1,24 @@
 // The sheet's tests: length, fields of every step, repeated tags, unknown tags.
 ghost use Rattle.std.specs.Prelude.{◌≡◌};
+ghost use Rattle.records.specs.Answers.{verdict_of};
 ghost use Rattle.sheets.specs.Sheets.{is_sheet, sheet_verdict, fields_verdict, unknown_verdict, jumps_known, known};
 
 use crate::tags;
-use records::{OUT_OF_RANGE, UNKNOWN_TAG, Verdict, WRONG_LENGTH, accepted, refused};
+use records::{Number, Refusal, ensure};
 use steps::{step_at, step_count, step_fault};
 
-pub fn sheet_verdict(sheet: &[u8]) -> Verdict
-    ensures { result ≡ sheet_verdict sheet.now }
+#[tactic(auto, using(records::proofs::ReturnLaws::tests), unfolding(crate::specs::Sheets::sheet_verdict, crate::specs::Sheets::sheet_tests))]
+pub fn sheet_verdict(sheet: &[u8]) -> Result<(), Refusal>
+    ensures { verdict_of result ≡ sheet_verdict sheet.now }
 {
-    accepted()
-        .unless(is_sheet(sheet), WRONG_LENGTH, 0)
-        .then(fields_verdict(sheet))
-        .then(tags::repeats_verdict(sheet))
-        .then(unknown_verdict(sheet))
+    ensure(is_sheet(sheet), Number::WrongLength, 0)?;
+    fields_verdict(sheet)?;
+    tags::repeats_verdict(sheet)?;
+    unknown_verdict(sheet)
 }
 
 // 1 to 63 steps of 16 bytes.
+#[tactic(auto, unfolding(crate::specs::Sheets::is_sheet))]
 fn is_sheet(sheet: &[u8]) -> bool
     ensures { result ≡ is_sheet sheet.now }
 {
@@ -24,46 +26,42 @@ fn is_sheet(sheet: &[u8]) -> bool
     (16 <= length) & (length <= 1008) & (length % 16 == 0)
 }
 
-fn fields_verdict(sheet: &[u8]) -> Verdict
-    ensures { result ≡ fields_verdict sheet.now }
+#[tactic(auto, using(records::proofs::ReturnLaws::loops), unfolding(crate::specs::Sheets::fields_verdict))]
+fn fields_verdict(sheet: &[u8]) -> Result<(), Refusal>
+    ensures { verdict_of result ≡ fields_verdict sheet.now }
 {
     let steps = step_count(sheet);
     for k in 0..steps {
-        if step_fault(step_at(sheet, k)).number != 0 {
-            return refused(OUT_OF_RANGE, k as usize);
-        }
+        let sound = step_fault(step_at(sheet, k)).is_ok();
+        ensure(sound, Number::OutOfRange, k as usize)?;
     }
-    accepted()
+    Ok(())
 }
 
-fn unknown_verdict(sheet: &[u8]) -> Verdict
-    ensures { result ≡ unknown_verdict sheet.now }
+#[tactic(auto, using(records::proofs::ReturnLaws::loops), unfolding(crate::specs::Sheets::unknown_verdict))]
+fn unknown_verdict(sheet: &[u8]) -> Result<(), Refusal>
+    ensures { verdict_of result ≡ unknown_verdict sheet.now }
 {
     let steps = step_count(sheet);
     for k in 0..steps {
-        if !jumps_known(sheet, k) {
-            return refused(UNKNOWN_TAG, k as usize);
-        }
+        ensure(jumps_known(sheet, k), Number::UnknownTag, k as usize)?;
     }
-    accepted()
+    Ok(())
 }
 
+#[tactic(auto, unfolding(crate::specs::Sheets::jumps_known))]
 fn jumps_known(sheet: &[u8], k: u8) -> bool
     ensures { result ≡ jumps_known sheet.now k }
 {
     let step = step_at(sheet, k);
-    let fault = known(sheet, step.faultjump);
-    let sequence = known(sheet, step.sequencejump);
-    let timeout = known(sheet, step.timeoutjump);
-    fault & sequence & timeout
+    let jumps = [step.faultjump, step.sequencejump, step.timeoutjump];
+    jumps.iter().all(|jump| known(sheet, *jump))
 }
 
 // The jump is absent, or some step has its tag.
+#[tactic(auto, unfolding(crate::specs::Sheets::known))]
 fn known(sheet: &[u8], jump: u16) -> bool
     ensures { result ≡ known sheet.now jump }
 {
-    if jump == 0 {
-        return true;
-    }
-    tags::look_up(sheet, jump) < step_count(sheet)
+    jump == 0 || tags::look_up(sheet, jump).is_some()
 }

@@ -1,23 +1,25 @@
--- `sheets::tags::look_up` meets its contract. The invariant: the steps from k on give the whole look-up. Assumes nothing.
-use mathlib.Core.Path.{◌≡◌, sym, ◌∙◌}
-use native.Mathlib.Omega.{arith}
-use Rattle.records.proofs.TagSearch.{looked_none, looked_pass, looked_hit, looked_end}
+-- `sheets::tags::look_up` meets its contract: the first step with the tag is the look-up's. Assumes nothing.
+use Prim.Native.Nat.{ℕ}
+use mathlib.Core.Path.{◌≡◌, subst}
+use borrow.Author.Tests.{tests}
+use lib.Dec.{ltb}
+use Rattle.std.specs.Option.{is_some, unwrap_or}
+use Rattle.std.proofs.Common.{rules}
+use Rattle.std.proofs.lemmas.Iterator.{first_from_Range}
+use Rattle.records.specs.Tags.{tag_at, look_up}
+use Rattle.sheets.proofs.TagSearch.{Without, found_is}
 use Rattle.sheets.proofs.tags.look_up.Goals as goal
-
-pub loop-k-init : goal.loop-k-init
-loop-k-init c = (looked_none 16 _ _ _, c.step_count-steps.ensures)
-
-pub returns-then-tag-wanted : goal.returns-then-tag-wanted
-returns-then-tag-wanted c =
-    sym (looked_hit 16 _ _ _ _ c.loop-k.invariant.0 (omega arith) (sym c.tag.ensures ∙ c.if-tag-wanted.true))
-
-pub loop-k-preserved : goal.loop-k-preserved
-loop-k-preserved c =
-    let so = c.loop-k.invariant in
-    (looked_pass 16 _ _ _ _ so.0 (omega arith) (λ t. c.if-tag-wanted.false (c.tag.ensures ∙ t)), so.1)
 
 pub returns : goal.returns
 returns c =
-    let so = c.loop-k in
-    let last : c.step_count-steps.result ≡ so.k = omega arith in
-    last ∙ sym (looked_end 16 _ _ _ _ so.invariant.0 (omega arith))
+    let sheet = c.args.sheet.now in
+    let tag = c.args.wanted in
+    let found = c.find.result in
+    let first =
+    first_from_Range _ _ _ _ (λ k. tag_at 16 sheet k ≡ tag) (Without 16 sheet tag) c.find.ensures.ran
+    (λ x q k. search (rules, tests))
+    (λ x q k. (search rules, search (rules, tests))) in
+    let is : (unwrap_or found _ ≡ look_up 16 sheet _ tag) × (is_some found ≡ ltb (look_up 16 sheet _ tag) _) =
+    subst (λ (n : ℕ). (unwrap_or found n ≡ look_up 16 sheet n tag) × (is_some found ≡ ltb (look_up 16 sheet n tag) n)) c.step_count.ensures
+    (found_is 16 sheet _ tag found first) in
+    record { step = is.0; found = is.1 }
