@@ -1,29 +1,21 @@
 // The sheet's tests: length, fields of every step, repeated tags, unknown tags.
 ghost use Rattle.std.specs.Prelude.{◌≡◌};
 ghost use Rattle.records.specs.Answers.{verdict_of};
-ghost use Rattle.sheets.specs.Sheets.{is_sheet, sheet_verdict, fields_verdict, unknown_verdict, jumps_known, known};
+ghost use Rattle.sheets.specs.Sheets.{sheet_verdict, fields_verdict, unknown_verdict, jumps_known, known};
 
 use crate::tags;
 use records::{Number, Refusal, ensure};
 use steps::{step_at, step_count, step_fault};
+use words::is_whole;
 
-#[tactic(auto, using(records::proofs::ReturnLaws::tests), unfolding(crate::specs::Sheets::sheet_verdict, crate::specs::Sheets::sheet_tests))]
+#[tactic(auto, using(records::proofs::ReturnLaws::tests), unfolding(crate::specs::Sheets::sheet_verdict, crate::specs::Sheets::sheet_tests, crate::specs::Sheets::is_sheet, records::specs::Lists::whole_records))]
 pub fn sheet_verdict(sheet: &[u8]) -> Result<(), Refusal>
     ensures { verdict_of result ≡ sheet_verdict sheet.now }
 {
-    ensure(is_sheet(sheet), Number::WrongLength, 0)?;
+    ensure(is_whole(sheet, 16), Number::WrongLength, 0)?;
     fields_verdict(sheet)?;
     tags::repeats_verdict(sheet)?;
     unknown_verdict(sheet)
-}
-
-// 1 to 63 steps of 16 bytes.
-#[tactic(auto, unfolding(crate::specs::Sheets::is_sheet))]
-fn is_sheet(sheet: &[u8]) -> bool
-    ensures { result ≡ is_sheet sheet.now }
-{
-    let length = sheet.len();
-    (16 <= length) & (length <= 1008) & (length % 16 == 0)
 }
 
 #[tactic(auto, using(records::proofs::ReturnLaws::loops), unfolding(crate::specs::Sheets::fields_verdict))]

@@ -8,6 +8,7 @@ use crate::cell::cell_at;
 use crate::fields;
 use machine::Node;
 use records::{Number, Refusal, ensure};
+use words::is_whole;
 
 // A cell at which the engine may stand: the length, the cell's number, then number 4 at a cell with a field out of
 // its range.
@@ -34,12 +35,11 @@ pub fn table_verdict(table: &[u8]) -> Result<(), Refusal>
 }
 
 // 1 to 63 cells of 12 bytes.
-#[tactic(auto, unfolding(crate::specs::Tables::is_table))]
+#[tactic(auto, unfolding(crate::specs::Tables::is_table, records::specs::Lists::whole_records))]
 fn is_table(table: &[u8]) -> bool
     ensures { result ≡ is_table table.now }
 {
-    let length = table.len();
-    (12 <= length) & (length <= 756) & (length % 12 == 0)
+    is_whole(table, 12)
 }
 
 // Cell k, with no field out of its range.
