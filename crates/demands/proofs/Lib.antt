@@ -9,3 +9,4 @@ pub mod Path
 pub mod ForC
 pub mod Starred
 pub mod OneAnswer
+pub mod ResultLaws

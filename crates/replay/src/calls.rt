@@ -1,95 +1,104 @@
 // The calls by kind: settings, detectors and pins.
-ghost use Rattle.std.specs.Prelude.{◌≤◌};
-
 use crate::bank::{bank_from, is_bank};
-use crate::parts::{ends_with, is_verdict};
+use crate::fields::Fields;
+use crate::for_c::{is_shown_on, is_started_on, is_ticked_on};
+use crate::machine_calls::{is_shown, is_table, is_ticked, is_translated};
 use crate::settings::{is_settings, settings_from};
-use crate::{for_c, machine_calls};
-use detectors::Detected;
+use detectors::{Bank, Detected, Detection};
+use engine::{Sheet, Table};
 use image::Settings;
 use states::state_bytes;
-use words::word_at;
 
 // Whether the call of a kind answers what is expected. A kind that is not known is not alike.
 pub(crate) fn is_alike(kind: u8, given: &[u8], lent: &mut [u8], expected: &[u8]) -> bool {
-    if kind == 1 {
-        return is_read(given, lent, expected);
+    let expected = &mut Fields::new(expected);
+    match kind {
+        1 => is_read(given, lent, expected),
+        2 => is_written(settings_from(&mut Fields::new(given)), lent, expected),
+        6 => is_translated(given, lent, expected),
+        14 => is_started_on(lent, expected),
+        15 => is_ticked_on::<Table>(given, lent, expected),
+        16 => is_ticked_on::<Sheet>(given, lent, expected),
+        17 => is_shown_on::<Table>(given, lent, expected),
+        18 => is_shown_on::<Sheet>(given, lent, expected),
+        _ => lent.is_empty() && is_lent_none(kind, given, expected),
     }
-    if kind == 2 {
-        return is_written(settings_from(given), lent, expected, 0);
-    }
-    if kind == 6 {
-        return machine_calls::is_translated(given, lent, expected);
-    }
-    if kind >= 14 && kind <= 18 {
-        return for_c::is_for_c(kind, given, lent, expected);
-    }
-    if lent.len() != 0 {
-        return false;
-    }
-    if kind <= 4 {
-        return is_detected(kind, given, expected);
-    }
-    if kind == 5 {
-        return is_driven(given, expected);
-    }
-    if kind == 13 {
-        return is_started(expected);
-    }
-    machine_calls::is_run(kind, given, expected)
 }
 
-fn is_read(image: &[u8], lent: &mut [u8], expected: &[u8]) -> bool {
-    let reading = reading::read(image);
-    let settings = reading.settings;
-    is_verdict(reading.verdict, expected, 0)
-        & is_settings(settings, expected, 3)
-        & is_written(settings, lent, expected, 163)
-}
-
-// The settings' verdict and the writer's from `at` on, then the lent bytes.
-fn is_written(settings: Settings, lent: &mut [u8], expected: &[u8], at: usize) -> bool
-    requires { at ≤ 200 }
-{
-    let verdict = writing::settings_verdict(settings);
-    is_verdict(verdict, expected, at)
-        & is_verdict(writing::write(settings, lent), expected, at + 3)
-        & ends_with(lent, expected, at + 6)
-}
-
-fn is_detected(kind: u8, given: &[u8], expected: &[u8]) -> bool {
-    if given.len() < 260 {
-        return false;
+// The calls that are lent no buffer.
+fn is_lent_none(kind: u8, given: &[u8], expected: &mut Fields<'_>) -> bool {
+    match kind {
+        3 => match detecting(given) {
+            Some((settings, bank, frames)) => {
+                is_detection(detectors::tick(settings, bank, frames), expected)
+            }
+            None => false,
+        },
+        4 => match detecting(given) {
+            Some((settings, bank, frames)) => {
+                is_detection(detectors::engine_tick(settings, bank, frames), expected)
+            }
+            None => false,
+        },
+        5 => is_driven(given, expected),
+        7 => is_ticked::<Table>(given, expected),
+        8 => is_ticked::<Sheet>(given, expected),
+        9 => is_shown::<Table>(given, expected),
+        10 => is_shown::<Sheet>(given, expected),
+        11 => is_table(given, expected),
+        12 => expected.has_verdict(sheets::sheet_verdict(given)) & expected.ends_with(&[]),
+        13 => is_started(expected),
+        _ => false,
     }
-    let settings = settings_from(given);
-    let bank = bank_from(given);
-    let frames = &given[260..];
-    if kind == 3 {
-        return is_detection(detectors::tick(settings, bank, frames), expected);
-    }
-    (kind == 4) & is_detection(detectors::engine_tick(settings, bank, frames), expected)
 }
 
-fn is_detection(detected: Detected, expected: &[u8]) -> bool {
-    is_verdict(detected.verdict, expected, 0)
-        & is_bank(detected.bank, expected, 3)
-        & (detected.faults == word_at(expected, 103))
-        & (detected.warnings == word_at(expected, 105))
-        & (expected.len() == 107)
+// A refusal has the zero settings.
+fn is_read(image: &[u8], lent: &mut [u8], expected: &mut Fields<'_>) -> bool {
+    let answer = reading::read(image);
+    let settings = answer.unwrap_or_default();
+    expected.has_verdict(answer)
+        & is_settings(settings, expected)
+        & is_written(settings, lent, expected)
 }
 
-fn is_driven(given: &[u8], expected: &[u8]) -> bool {
-    let driven = pins::pins(settings_from(given), word_at(given, 160));
-    is_verdict(driven.verdict, expected, 0)
-        & (driven.pins == word_at(expected, 3))
-        & (expected.len() == 5)
+// The settings' verdict and the writer's, then the lent bytes.
+fn is_written(settings: Settings, lent: &mut [u8], expected: &mut Fields<'_>) -> bool {
+    expected.has_verdict(writing::settings_verdict(settings))
+        & expected.has_verdict(writing::write(settings, lent))
+        & expected.ends_with(lent)
 }
 
-fn is_started(expected: &[u8]) -> bool {
-    if expected.len() != 188 {
-        return false;
-    }
-    ends_with(&blank_image::blank(), &expected[0..80], 0)
-        & is_bank(detectors::start(), expected, 80)
-        & ends_with(&state_bytes(engine::start()), expected, 180)
+// Settings, a bank, and the frames after them.
+fn detecting(given: &[u8]) -> Option<(Settings, Bank, &[u8])> {
+    let fields = &mut Fields::new(given);
+    let settings = settings_from(fields);
+    let bank = bank_from(fields);
+    let frames = fields.rest()?;
+    Some((settings, bank, frames))
+}
+
+// A refusal has zero words.
+fn is_detection(detection: Detection, expected: &mut Fields<'_>) -> bool {
+    let detected = Detected::of(detection);
+    expected.has_verdict(detection.words)
+        & is_bank(detected.bank, expected)
+        & (detected.faults == expected.word())
+        & (detected.warnings == expected.word())
+        & expected.ends_with(&[])
+}
+
+// A refusal has no pin.
+fn is_driven(given: &[u8], expected: &mut Fields<'_>) -> bool {
+    let fields = &mut Fields::new(given);
+    let settings = settings_from(fields);
+    let answer = pins::pins(settings, fields.word());
+    expected.has_verdict(answer)
+        & (answer.unwrap_or(0) == expected.word())
+        & expected.ends_with(&[])
+}
+
+fn is_started(expected: &mut Fields<'_>) -> bool {
+    expected.has_bytes(&blank_image::blank())
+        & is_bank(detectors::start(), expected)
+        & expected.ends_with(&state_bytes(engine::start()))
 }

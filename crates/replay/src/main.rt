@@ -5,9 +5,9 @@
 
 mod bank;
 mod calls;
+mod fields;
 mod for_c;
 mod machine_calls;
-mod parts;
 mod settings;
 
 ghost use Rattle.std.specs.Prelude.{◌≤◌, IfOk};
@@ -20,54 +20,46 @@ use words::word_at;
 
 const LONGEST: usize = 4096;
 
-// What came of the stream's next case: alike or not; no case, at the end; or a case cut short.
+// What came of the stream's next case.
 #[derive(Clone, Copy)]
-struct Outcome {
-    kind: u8,
-    alike: bool,
-    ended: bool,
-    cut: bool,
+enum Outcome {
+    Alike,
+    Differs(u8),
+    CutShort,
+    AtTheEnd,
 }
 
 fn main(rt: HostRuntime) -> io::Result<()> {
-    let mut number = 0;
+    let mut alike = 0;
     let mut different = 0;
-    while number < u64::MAX {
+    for number in 0..u64::MAX {
         let outcome = next_case(&mut rt.stdin());
-        if outcome.ended {
-            report_end(&mut rt.stdout(), number, outcome.cut)?;
-            break;
+        tell(&mut rt.stdout(), number, outcome, different)?;
+        match outcome {
+            Outcome::Alike => alike += 1,
+            Outcome::Differs(_) => different += 1,
+            Outcome::CutShort | Outcome::AtTheEnd => break,
         }
-        different += differs(&mut rt.stdout(), number, outcome, different)?;
-        number += 1;
     }
-    print(&mut rt.stdout(), last_line(number - different, different))?;
+    print(&mut rt.stdout(), last_line(alike, different))?;
     Ok(())
 }
 
 fn next_case(input: &mut impl Read) -> Outcome {
     let mut header = [0u8; 7];
-    let received = console::receive(input, &mut header);
-    if received.count == 0 {
-        return no_case(received.failed);
+    let Ok(count) = console::receive(input, &mut header) else {
+        return Outcome::CutShort;
+    };
+    if count == 0 {
+        return Outcome::AtTheEnd;
     }
-    let kind = header[0];
     let given = word_at(&header, 1) as usize;
     let lent = word_at(&header, 3) as usize;
     let expected = word_at(&header, 5) as usize;
-    if received.count < 7 || given > LONGEST || lent > LONGEST || expected > LONGEST {
-        return no_case(true);
+    if count < 7 || given > LONGEST || lent > LONGEST || expected > LONGEST {
+        return Outcome::CutShort;
     }
-    try_case(input, kind, given, lent, expected)
-}
-
-fn no_case(cut: bool) -> Outcome {
-    Outcome {
-        kind: 0,
-        alike: true,
-        ended: true,
-        cut,
-    }
+    try_case(input, header[0], given, lent, expected)
 }
 
 fn try_case(input: &mut impl Read, kind: u8, given: usize, lent: usize, expected: usize) -> Outcome
@@ -78,49 +70,39 @@ fn try_case(input: &mut impl Read, kind: u8, given: usize, lent: usize, expected
     let mut arguments = [0u8; LONGEST];
     let mut buffer = [0u8; LONGEST];
     let mut answer = [0u8; LONGEST];
-    let came = parts::receive(input, &mut arguments, given)
-        & parts::receive(input, &mut buffer, lent)
-        & parts::receive(input, &mut answer, expected);
+    let arguments = &mut arguments[..given];
+    let buffer = &mut buffer[..lent];
+    let answer = &mut answer[..expected];
+    let came = fills(input, arguments) & fills(input, buffer) & fills(input, answer);
     if !came {
-        return no_case(true);
+        return Outcome::CutShort;
     }
-    let alike = calls::is_alike(
-        kind,
-        &arguments[0..given],
-        &mut buffer[0..lent],
-        &answer[0..expected],
-    );
-    Outcome {
-        kind,
-        alike,
-        ended: false,
-        cut: false,
+    if calls::is_alike(kind, arguments, buffer, answer) {
+        Outcome::Alike
+    } else {
+        Outcome::Differs(kind)
     }
 }
 
-// 1 where a case is not alike, and the first ten of them are told.
-fn differs(output: &mut impl Write, number: u64, outcome: Outcome, before: u64) -> io::Result<u64>
-    ensures { IfOk result (λ n. n ≤ 1) }
-{
-    if outcome.alike {
-        return Ok(0);
-    }
-    if before < 10 {
-        let line = case_line(number).word(b" kind").item(outcome.kind as u64);
-        print(output, line.word(b" differs\n"))?;
-    }
-    Ok(1)
+// Whether the input has bytes for the whole part.
+fn fills(input: &mut impl Read, part: &mut [u8]) -> bool {
+    console::receive(input, part).is_ok_and(|count| count == part.len())
 }
 
-fn report_end(output: &mut impl Write, number: u64, cut: bool) -> io::Result<()> {
-    if cut {
-        print(output, case_line(number).word(b" is cut short\n"))?;
+// The first ten cases that differ are told, and a case that is cut short.
+fn tell(output: &mut impl Write, number: u64, outcome: Outcome, different: u64) -> io::Result<()> {
+    let line = text::empty().word(b"case").item(number);
+    match outcome {
+        Outcome::Differs(kind) if different < 10 => {
+            let line = line.word(b" kind").item(kind as u64);
+            print(output, line.word(b" differs\n"))?;
+        }
+        Outcome::CutShort => {
+            print(output, line.word(b" is cut short\n"))?;
+        }
+        _ => {}
     }
     Ok(())
-}
-
-fn case_line(number: u64) -> Line {
-    text::empty().word(b"case").item(number)
 }
 
 fn last_line(alike: u64, different: u64) -> Line {

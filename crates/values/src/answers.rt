@@ -1,50 +1,40 @@
 // The lines.
 use console::print;
-use engine::Ticked;
-use records::Verdict;
+use engine::{Shown, Ticked};
+use machine::State;
+use records::{Refusal, Verdict};
 use std::io;
 use std::io::Write;
-use text::Line;
 
-// NAME NUMBER PLACE
-pub(crate) fn line(name: &[u8], verdict: Verdict) -> Line {
-    let line = text::empty().word(name);
-    line.item(verdict.number as u64).item(verdict.place as u64)
-}
-
-pub(crate) fn print_verdict(
+// NAME NUMBER PLACE, then the items of the answer.
+pub(crate) fn print_answer(
     output: &mut impl Write,
-    name: &[u8],
+    name: &str,
     verdict: Verdict,
+    items: &[u16],
 ) -> io::Result<()> {
-    print(output, line(name, verdict).word(b"\n"))?;
+    let line = text::empty().word(name.as_bytes());
+    let mut line = line.item(verdict.number as u64).item(verdict.place as u64);
+    for item in items {
+        line = line.item(*item as u64);
+    }
+    print(output, line.word(b"\n"))?;
     Ok(())
 }
 
-// The same with one item more, or two.
-pub(crate) fn print_item(
+// Outputs and step, zero on a refusal.
+pub(crate) fn print_shown(
     output: &mut impl Write,
-    name: &[u8],
-    verdict: Verdict,
-    item: u16,
+    name: &str,
+    answer: Result<Shown, Refusal>,
+    state: State,
 ) -> io::Result<()> {
-    print(output, line(name, verdict).item(item as u64).word(b"\n"))?;
-    Ok(())
+    let ticked = Ticked::of(answer, state);
+    let items = [ticked.outputs, ticked.step as u16];
+    print_answer(output, name, ticked.verdict, &items)
 }
 
-pub(crate) fn print_items(
-    output: &mut impl Write,
-    name: &[u8],
-    verdict: Verdict,
-    first: u16,
-    second: u16,
-) -> io::Result<()> {
-    let line = line(name, verdict).item(first as u64);
-    print(output, line.item(second as u64).word(b"\n"))?;
-    Ok(())
-}
-
-pub(crate) fn print_tick(output: &mut impl Write, name: &[u8], ticked: Ticked) -> io::Result<()> {
-    let step = ticked.step as u16;
-    print_items(output, name, ticked.verdict, ticked.outputs, step)
+// The first bytes, so many of them, or all where there are fewer.
+pub(crate) fn first(bytes: &[u8], length: usize) -> &[u8] {
+    &bytes[..length.min(bytes.len())]
 }

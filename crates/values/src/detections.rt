@@ -1,62 +1,62 @@
 // The reader, the writer, the detectors and the pins: their refusals in their order.
-use crate::answers::{print_item, print_items, print_verdict};
-use detectors::Bank;
+use crate::answers::{first, print_answer};
+use detectors::{Bank, Detected};
 use image::Settings;
+use records::Verdict;
 use std::io;
 use std::io::Write;
 
-// Length, then the lowest address, and there 2 before 3.
-pub(crate) fn try_read_order(output: &mut impl Write) -> io::Result<()> {
-    try_read(output, b"read, 79 bytes:", 0x20, 0xC0, 79)?;
-    try_read(output, b"read, then 80:", 0x20, 0xC0, 80)?;
-    try_read(output, b"read, then byte 1 mended:", 0, 0xC0, 80)?;
-    try_read(output, b"read, then bit 7 mended:", 0, 0x40, 80)?;
-    try_read(output, b"read, then byte 7 mended:", 0, 0x10, 80)
-}
-
 // The blank image with two bytes of its first group, cut to a length.
-fn try_read(
-    output: &mut impl Write,
-    name: &[u8],
+struct Read {
+    name: &'static str,
     one: u8,
     seven: u8,
     length: usize,
-) -> io::Result<()> {
-    let mut image = [0u8; 80];
-    image[1] = one;
-    image[7] = seven;
-    if length <= 80 {
-        let reading = reading::read(&image[0..length]);
-        print_verdict(output, name, reading.verdict)?;
+}
+
+const READS: [Read; 5] = [
+    Read { name: "read, 79 bytes:", one: 0x20, seven: 0xC0, length: 79 },
+    Read { name: "read, then 80:", one: 0x20, seven: 0xC0, length: 80 },
+    Read { name: "read, then byte 1 mended:", one: 0, seven: 0xC0, length: 80 },
+    Read { name: "read, then bit 7 mended:", one: 0, seven: 0x40, length: 80 },
+    Read { name: "read, then byte 7 mended:", one: 0, seven: 0x10, length: 80 },
+];
+
+// Length, then the lowest address, and there 2 before 3.
+pub(crate) fn try_read_order(output: &mut impl Write) -> io::Result<()> {
+    for tried in &READS {
+        let mut image = blank_image::blank();
+        image[1] = tried.one;
+        image[7] = tried.seven;
+        let answer = reading::read(first(&image, tried.length));
+        print_answer(output, tried.name, Verdict::of(answer), &[])?;
     }
     Ok(())
 }
 
 // Length before settings.
 pub(crate) fn try_write_order(output: &mut impl Write) -> io::Result<()> {
-    let mut short = [0u8; 79];
-    try_write(output, b"write, 79 bytes:", 32, &mut short)?;
     let mut buffer = [0u8; 80];
-    try_write(output, b"write, then 80:", 32, &mut buffer)?;
-    try_write(output, b"write, then hysteresis mended:", 31, &mut buffer)
+    try_write(output, "write, 79 bytes:", 32, &mut buffer[..79])?;
+    try_write(output, "write, then 80:", 32, &mut buffer)?;
+    try_write(output, "write, then hysteresis mended:", 31, &mut buffer)
 }
 
 fn try_write(
     output: &mut impl Write,
-    name: &[u8],
+    name: &str,
     hysteresis: u8,
     buffer: &mut [u8],
 ) -> io::Result<()> {
-    let verdict = writing::write(driving(hysteresis), buffer);
-    print_verdict(output, name, verdict)
+    let answer = writing::write(driving(hysteresis), buffer);
+    print_answer(output, name, Verdict::of(answer), &[])
 }
 
 // The settings of the blank image, but that the engine drives PDO1, and a hysteresis on VP1.
 fn driving(hysteresis: u8) -> Settings {
     let mut image = blank_image::blank();
     image[7] = 0x10;
-    let reading = reading::read(&image);
-    let mut settings = reading.settings;
+    let mut settings = reading::read(&image).unwrap_or_default();
     settings.groups[0].over.hysteresis = hysteresis;
     settings
 }
@@ -68,48 +68,44 @@ fn counted(count: u16) -> Bank {
     bank
 }
 
-// Length, settings, state, level byte. VP1 has sample 1 over threshold 0.
-pub(crate) fn try_tick_order(output: &mut impl Write) -> io::Result<()> {
-    try_tick(output, b"detector tick, 10 bytes:", 32, 1, 32, 10)?;
-    try_tick(output, b"detector tick, then 11:", 32, 1, 32, 11)?;
-    try_tick(
-        output,
-        b"detector tick, then settings mended:",
-        31,
-        1,
-        32,
-        11,
-    )?;
-    try_tick(output, b"detector tick, then state mended:", 31, 0, 32, 11)?;
-    try_tick(output, b"detector tick, then level byte 31:", 31, 0, 31, 11)
-}
-
-fn try_tick(
-    output: &mut impl Write,
-    name: &[u8],
+// A frame in which VP1 has sample 1 over threshold 0.
+struct Frame {
+    name: &'static str,
     hysteresis: u8,
     count: u16,
     levels: u8,
     length: usize,
-) -> io::Result<()> {
-    let frame = [1, 0, 0, 0, 0, 0, 0, 0, 0, 0, levels];
-    if length <= 11 {
-        let detected = detectors::tick(driving(hysteresis), counted(count), &frame[0..length]);
-        let faults = detected.faults;
-        let warnings = detected.warnings;
-        print_items(output, name, detected.verdict, faults, warnings)?;
+}
+
+const FRAMES: [Frame; 5] = [
+    Frame { name: "detector tick, 10 bytes:", hysteresis: 32, count: 1, levels: 32, length: 10 },
+    Frame { name: "detector tick, then 11:", hysteresis: 32, count: 1, levels: 32, length: 11 },
+    Frame { name: "detector tick, then settings mended:", hysteresis: 31, count: 1, levels: 32, length: 11 },
+    Frame { name: "detector tick, then state mended:", hysteresis: 31, count: 0, levels: 32, length: 11 },
+    Frame { name: "detector tick, then level byte 31:", hysteresis: 31, count: 0, levels: 31, length: 11 },
+];
+
+// Length, settings, state, level byte.
+pub(crate) fn try_tick_order(output: &mut impl Write) -> io::Result<()> {
+    for tried in &FRAMES {
+        let frame = [1, 0, 0, 0, 0, 0, 0, 0, 0, 0, tried.levels];
+        let (settings, bank) = (driving(tried.hysteresis), counted(tried.count));
+        let detection = detectors::tick(settings, bank, first(&frame, tried.length));
+        let detected = Detected::of(detection);
+        let items = [detected.faults, detected.warnings];
+        print_answer(output, tried.name, detected.verdict, &items)?;
     }
     Ok(())
 }
 
 // Settings, then the word.
 pub(crate) fn try_pin_order(output: &mut impl Write) -> io::Result<()> {
-    try_pins(output, b"pins, outputs 1024:", 32, 1024)?;
-    try_pins(output, b"pins, then settings mended:", 31, 1024)?;
-    try_pins(output, b"pins, then outputs 1023:", 31, 1023)
+    try_pins(output, "pins, outputs 1024:", 32, 1024)?;
+    try_pins(output, "pins, then settings mended:", 31, 1024)?;
+    try_pins(output, "pins, then outputs 1023:", 31, 1023)
 }
 
-fn try_pins(output: &mut impl Write, name: &[u8], hysteresis: u8, outputs: u16) -> io::Result<()> {
-    let driven = pins::pins(driving(hysteresis), outputs);
-    print_item(output, name, driven.verdict, driven.pins)
+fn try_pins(output: &mut impl Write, name: &str, hysteresis: u8, outputs: u16) -> io::Result<()> {
+    let answer = pins::pins(driving(hysteresis), outputs);
+    print_answer(output, name, Verdict::of(answer), &[answer.unwrap_or(0)])
 }
