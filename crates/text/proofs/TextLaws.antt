@@ -7,7 +7,8 @@ use native.Mathlib.Decide.{dec_le}
 use native.Mathlib.Omega.{arith}
 use borrow.Author.Tests.{lt-ltb, le-ltb}
 use lib.ListN.{length, take, drop, length-append, length-take}
-use lib.Seq.{paste, take_at, take-append-add, drop-append-add, drop-drop}
+use lib.Seq.{take_at, take-append-add, drop-append-add, drop-drop}
+use borrow.Rule.Slice.PartMut.{put_mid}
 use mir.Val.{Val}
 use denote.Laws.{Is as Owned}
 use denote.Struct.Declared.{row}
@@ -74,7 +75,7 @@ appended_twice line s t =
     ap (rewritten (appended line s)) text
     ∙ rewritten_twice line (take 256 (written line ++ s)) (take 256 all) (simp (length-take, length-append) (omega arith))
 
--- ---- a line that a loop writes: as many bytes of the text as fit, from the end of what stands there on
+-- ---- a line that is written to: as many bytes of the text as fit, from the end of what stands there on
 module _ (line : Line) (whole : length line.bytes ≡ 256) where
   pub written_length : length (written line) ≡ min line.length 256
   unfolding written
@@ -97,12 +98,17 @@ module _ (line : Line) (whole : length line.bytes ≡ 256) where
     standing_length : length (take 256 (written line ++ text)) ≡ length (written line) + min (length text) (256 - length (written line))
     standing_length = simp (length-take, length-append) (omega (arith, written_length))
 
-    pub appended_pasted : (start count : ℕ) → start ≡ length (written line) → count ≡ min (length text) (256 - start)
-        → line_of (paste line.bytes start text count) (start + count) ≡ appended line text
+    -- as much of the text as fits, put behind what stands in the line
+    pub appended_put : (start count k : ℕ) (part : List ℕ) → start ≡ length (written line) → count ≡ min (length text) (256 - start)
+        → k ≡ count → part ≡ take count text → line_of (put_mid start k line.bytes part) (start + count) ≡ appended line text
     unfolding appended rewritten
-    appended_pasted start count p q =
+    appended_put start count k part p q same copied =
         let counted : count ≡ min (length text) (256 - length (written line)) = q ∙ ap (λ (n : ℕ). min (length text) (256 - n)) p in
-        ap₂ (λ (t : List ℕ) (n : ℕ). line_of (t ++ drop n line.bytes) n)
+        ap (λ (bytes : List ℕ). line_of bytes (start + count))
+        (ap₂ (λ (n : ℕ) (l : List ℕ). put_mid start n line.bytes l) same copied
+        ∙ sym (append_assoc (take start line.bytes) (take count text) (drop count (drop start line.bytes)))
+        ∙ ap (λ (l : List ℕ). (take start line.bytes ++ take count text) ++ l) (drop-drop count start line.bytes))
+        ∙ ap₂ (λ (t : List ℕ) (n : ℕ). line_of (t ++ drop n line.bytes) n)
         (ap₂ (λ (m n : ℕ). take m line.bytes ++ take n text) p counted ∙ sym standing)
         (ap₂ ◌+◌ p counted ∙ sym standing_length)
 

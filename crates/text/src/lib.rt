@@ -4,11 +4,12 @@
 // Every function is total. A line holds 256 bytes: what does not fit is left out.
 #![tactic(auto)]
 
-ghost use Rattle.std.specs.Prelude.{min, ◌∷◌, ◌≡◌, length};
+ghost use Rattle.std.specs.Prelude.{◌∷◌, ◌≡◌, length};
 ghost use Rattle.io.specs.Counts.{IsPrefixLen};
 ghost use Rattle.text.specs.Text.{empty_line, appended, written, decimal_text, hex_text};
 
-// The first `length` bytes, and all of them where that is more, stand in the line.
+// The first `length` bytes, and all of them where that is more, stand in the line. An array and a length, and no
+// `Vec` or `String`: no program here takes memory from a heap.
 #[derive(Clone, Copy)]
 pub struct Line {
     pub bytes: [u8; 256],
@@ -26,11 +27,12 @@ pub fn empty() -> Line
 
 impl Line {
     // How many bytes stand in the line.
+    #[tactic(auto, unfolding(crate::specs::Text::written))]
     pub fn count(self) -> usize
         ensures prefix_len { IsPrefixLen result self.bytes }
         ensures value { result ≡ length (written self) }
     {
-        least(self.length, 256)
+        self.length.min(256)
     }
 
     // The text after what stands in the line.
@@ -38,18 +40,18 @@ impl Line {
         ensures { result ≡ appended self text.now }
     {
         let start = self.count();
-        let count = least(text.len(), 256 - start);
+        let count = text.len().min(256 - start);
         let mut bytes = self.bytes;
-        for i in 0..count {
-            bytes[start + i] = text[i];
-        }
+        bytes[start..start + count].copy_from_slice(&text[..count]);
         Line {
             bytes,
             length: start + count,
         }
     }
 
-    // The number in decimal.
+    // The number in decimal. The crate `io` spells the digits, and its contract names each of them: `write!` asks for a
+    // writer over the line, and is no plainer.
+    #[tactic(auto, using(crate::proofs::TextLaws::decimal_fewest))]
     pub fn decimal(self, number: u64) -> Line
         ensures { result ≡ appended self (decimal_text number) }
     {
@@ -59,6 +61,7 @@ impl Line {
     }
 
     // A space and the number in decimal.
+    #[tactic(auto, using(crate::proofs::TextLaws::appended_twice))]
     pub fn item(self, number: u64) -> Line
         ensures { result ≡ appended self (32 ∷ decimal_text number) }
     {
@@ -66,6 +69,7 @@ impl Line {
     }
 
     // The number in hexadecimal, with zeros in front up to `width` digits.
+    #[tactic(auto, using(crate::proofs::TextLaws::hex_fewest))]
     pub fn hex(self, number: u64, width: usize) -> Line
         ensures { result ≡ appended self (hex_text width number) }
     {
@@ -73,10 +77,4 @@ impl Line {
         let count = io::hex(number, width, &mut digits);
         self.word(&digits[..count])
     }
-}
-
-fn least(a: usize, b: usize) -> usize
-    ensures { result ≡ min a b }
-{
-    if a < b { a } else { b }
 }
