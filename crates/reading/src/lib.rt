@@ -6,6 +6,5 @@
 
 mod codes;
 mod reader;
-mod zero;
 
 pub use reader::read;
