@@ -112,7 +112,15 @@ fn is_group(group: &Group, expected: &mut Fields<'_>) -> bool {
         & (group.input as u8 == expected.byte())
         & is_logic(group.logic, expected)
         & (group.output.source as u8 == expected.byte())
-        & (group.output.pull as u8 == expected.byte())
+        & is_pull(group.output.pull, expected.byte())
+}
+
+// A pull-up is numbered by its place in the list, and not by its code.
+fn is_pull(pull: Pull, number: u8) -> bool {
+    PULLS
+        .iter()
+        .position(|listed| *listed as u8 == pull as u8)
+        .is_some_and(|place| place == number as usize)
 }
 
 fn is_threshold(threshold: Threshold, expected: &mut Fields<'_>) -> bool {
