@@ -6,7 +6,7 @@
 // before it moves a byte counts as one that failed.
 #![tactic(auto)]
 
-ghost use Rattle.std.specs.Prelude.{◌≡◌, ◌<◌, IfOk, OnErr, OnOk, false, length, take, true};
+ghost use Rattle.std.specs.Prelude.{◌≡◌, ◌<◌, IfOk, OnErr, OnOk, length, take};
 ghost use Rattle.std.specs.Io.KnownBytes.{Appends, Consumes, IsAtEnd};
 ghost use Rattle.io.specs.Counts.{IsPrefixLen};
 ghost use Rattle.text.specs.Text.{written};
@@ -17,43 +17,28 @@ use std::io;
 use std::io::{ErrorKind, Read, Write};
 use text::Line;
 
-// How many bytes came, at the start of the buffer; none where a read failed.
-#[derive(Clone, Copy)]
-pub struct Received {
-    pub count: usize,
-    pub failed: bool,
-}
-
-// Reads the input to its end or until the buffer is full. A read that fails counts as no byte at
-// all, however many came before it, so that what came is never taken for the whole input.
-pub fn receive<R: Read>(input: &mut R, buffer: &mut [u8]) -> Received
-    ensures within { IsPrefixLen result.count buffer.new }
-    ensures failed { result.failed ≡ true → result.count ≡ 0 }
-    ensures bytes { result.failed ≡ false → Consumes (R.remaining input.old) (R.remaining input.new) (take result.count buffer.new) }
-    ensures end { result.failed ≡ false → result.count < length buffer.new → IsAtEnd (R.remaining input.new) }
-    ensures part { result.failed ≡ true → ConsumesPart (R.remaining input.old) (R.remaining input.new) buffer.new }
+// Reads the input to its end or until the buffer is full, and answers how many bytes came, at the start of the buffer.
+// A read that fails ends it with its error and no count, however many bytes came before it, so that what came is never
+// taken for the whole input.
+pub fn receive<R: Read>(input: &mut R, buffer: &mut [u8]) -> io::Result<usize>
+    ensures within { IfOk result (λ n. IsPrefixLen n buffer.new) }
+    ensures bytes { IfOk result (λ n. Consumes (R.remaining input.old) (R.remaining input.new) (take n buffer.new)) }
+    ensures end { IfOk result (λ n. n < length buffer.new → IsAtEnd (R.remaining input.new)) }
+    ensures part { OnErr result (ConsumesPart (R.remaining input.old) (R.remaining input.new) buffer.new) }
 {
     let mut done = 0;
     while done < buffer.len() {
-        match input.read(&mut buffer[done..]) {
-            Err(_) => {
-                return Received {
-                    count: 0,
-                    failed: true,
-                };
-            }
-            Ok(0) => break,
-            Ok(more) => done += more,
+        let more = input.read(&mut buffer[done..])?;
+        if more == 0 {
+            break;
         }
+        done += more;
     }
-    Received {
-        count: done,
-        failed: false,
-    }
+    Ok(done)
 }
 
 // Writes a line, and answers how many bytes stand in it. Where a write fails, or takes no byte, a part
-// of the line may have been written.
+// of the line may have been written. A loop, and no `write_all`: of a write that fails that promises nothing.
 pub fn print<W: Write>(output: &mut W, line: Line) -> io::Result<usize>
     ensures count { IfOk result (λ n. n ≡ length (written line)) }
     ensures whole { OnOk result (Appends (W.contents output.old) (W.contents output.new) (written line)) }
@@ -74,6 +59,7 @@ pub fn print<W: Write>(output: &mut W, line: Line) -> io::Result<usize>
 
 // "refused NUMBER PLACE"; where the input has several parts, `part` is a space and the name of one, and
 // stands after the word.
+#[tactic(auto, unfolding(crate::specs::Refusal::refusal_line))]
 pub fn refusal(part: &[u8], number: u8, place: usize) -> Line
     ensures { result ≡ refusal_line part.now number place }
 {

@@ -23,8 +23,10 @@ taken_more line whole sent count more within counted =
 pub loop-sent-preserved : goal.loop-sent-preserved
 loop-sent-preserved g c =
     let l = c.loop-sent in
-    let line = c.args.line in (
-      search rules,
-      subst (Appends _ _) (taken_more line (line_bytes line _ c.well_formed.1.0) l.sent c.count-count.result c.in_ok-more.more l.invariant.0 c.count-count.ensures.value)
-          (Appends-trans _ _ _ _ _ l.invariant.1 c.in_ok-more.ensures.bytes),
-    )
+    let line = c.args.line in
+    record {
+      within = search rules;
+      went =
+          subst (Appends _ _) (taken_more line (line_bytes line _ c.well_formed.1.0) l.sent c.count-count.result c.in_ok-more.more l.invariant.within c.count-count.ensures.value)
+          (Appends-trans _ _ _ _ _ l.invariant.went c.in_ok-more.ensures.bytes);
+    }

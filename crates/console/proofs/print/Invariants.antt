@@ -5,8 +5,11 @@ use Rattle.text.specs.Text.{written}
 use Rattle.console.proofs.print.Given as goal
 
 abbrev pub invariant-loop-sent : goal.invariant-loop-sent
-invariant-loop-sent g l = (l.sent ≤ l.count)
-    × Appends (g.W.Write.contents l.initial.output) (g.W.Write.contents l.output) (take l.sent (written l.fn.line))
+invariant-loop-sent g l =
+    record {
+      within : l.sent ≤ l.count;
+      went : Appends (g.W.Write.contents l.initial.output) (g.W.Write.contents l.output) (take l.sent (written l.fn.line));
+    }
 
 abbrev pub decreases-loop-sent : goal.decreases-loop-sent
 decreases-loop-sent g l = l.count - l.sent

@@ -19,9 +19,11 @@ taken_more a k n xs ys within fits =
 
 pub loop-done-preserved : goal.loop-done-preserved
 loop-done-preserved g c =
-    let l = c.loop-done in (
-      search rules,
-      search rules,
-      subst (Consumes _ _) (taken_more l.done _ c.in-Ok.more l.buffer c.read.new.buf l.invariant.1 c.in-Ok.ensures.bound.0)
-          (Consumes-trans _ _ _ _ _ l.invariant.2 c.in-Ok.ensures.bytes.0),
-    )
+    let l = c.loop-done in
+    record {
+      kept = search rules;
+      within = search rules;
+      came =
+          subst (Consumes _ _) (taken_more l.done _ c.in_ok-more.more l.buffer c.read.new.buf l.invariant.within c.in_ok-more.ensures.bound.0)
+          (Consumes-trans _ _ _ _ _ l.invariant.came c.in_ok-more.ensures.bytes.0);
+    }
