@@ -14,7 +14,7 @@ use Rattle.tables.specs.Tables.{cell_at, cell_count, cell_verdict}
 use Rattle.steps.specs.Steps.{step_count}
 use Rattle.sheets.specs.Sheets.{sheet_verdict, node_at}
 use Rattle.engine.specs.declared.Ticked.{Ticked}
-use Rattle.engine.specs.declared.ticking.Went.{Went}
+use Rattle.engine.specs.Answers.{Went}
 
 -- ---- what differs between the forms
 

@@ -1,2 +1,3 @@
+pub mod Answers
 pub mod Engine
 pub mod Runs

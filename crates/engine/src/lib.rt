@@ -1,25 +1,60 @@
 // The engine on sheets and on tables: one tick, and what shows at a state.
 //
-// None of the calls has a `requires`. A refusal gives back the state it received, with zero outputs
-// and step 0. On a sheet all its own tests are made, without cells and room. On a table only the cell
-// at which the engine stands is tested; an entered cell is tested when a later tick meets it.
+// None of the calls has a `requires`. A refusal keeps the state that it received, and shows nothing. On a sheet all
+// its own tests are made, without cells and room. On a table only the cell at which the engine stands is tested; an
+// entered cell is tested when a later tick meets it.
 #![tactic(auto)]
 
+mod forms;
 mod ticking;
 
 ghost use Rattle.std.specs.Prelude.{◌≡◌};
+ghost use Rattle.machine.specs.Answers.{as_standing};
 ghost use Rattle.machine.specs.Machine.{start_state};
-ghost use Rattle.engine.specs.Engine.{Form, sheet_form, table_form, standing_at, ticked, shown_at};
+ghost use Rattle.engine.specs.Answers.{as_ticked, shows};
+ghost use Rattle.engine.specs.Engine.{Form, nodes_of, standing_at};
 
-use machine::{Standing, State};
-use records::{UNREACHABLE, Verdict};
-use sheets::{node_at, sheet_verdict};
-use steps::step_count;
-use tables::{cell_at, cell_standing};
-use ticking::{answer, go, state_verdict};
+use machine::{Node, State};
+use records::{Refusal, Verdict};
+pub use ticking::{show, tick};
+
+// What differs between sheets and tables.
+pub trait Form {
+    ghost form: { Form };
+
+    // The node with a number, if the engine may stand there.
+    fn standing(bytes: &[u8], k: u8) -> Result<Node, Refusal>
+        ensures { as_standing (nodes_of form bytes.now k) result ≡ standing_at form bytes.now k };
+
+    // The node with a number, untested.
+    fn node_at(bytes: &[u8], k: u8) -> Node
+        ensures { result ≡ nodes_of form bytes.now k };
+}
+
+pub struct Sheet;
+
+pub struct Table;
+
+// What shows at a state.
+#[derive(Clone, Copy)]
+pub struct Shown {
+    pub outputs: u16,
+    pub step: u8,
+}
+
+impl From<Node> for Shown {
+    ghost from_gives = { λ node shown. shown ≡ shows node };
+
+    fn from(node: Node) -> Shown {
+        Shown {
+            outputs: node.outputs,
+            step: node.step,
+        }
+    }
+}
 
 // The state after the tick, with the outputs and the step that show there; or the refusal, with the
-// state as received.
+// state as received: as C has it.
 #[derive(Clone, Copy)]
 pub struct Ticked {
     pub verdict: Verdict,
@@ -28,62 +63,27 @@ pub struct Ticked {
     pub step: u8,
 }
 
+impl Ticked {
+    // A call's answer, with the state after it.
+    pub fn of(answer: Result<Shown, Refusal>, state: State) -> Ticked
+        ensures { result ≡ as_ticked state answer }
+    {
+        let shown = answer.unwrap_or(Shown {
+            outputs: 0,
+            step: 0,
+        });
+        Ticked {
+            verdict: Verdict::of(answer),
+            state,
+            outputs: shown.outputs,
+            step: shown.step,
+        }
+    }
+}
+
 // Where every run starts: step 0 or cell 0, elapsed 0.
 pub fn start() -> State
     ensures { result ≡ start_state }
 {
     machine::start()
-}
-
-// One tick with a word of faults.
-pub fn tick_table(table: &[u8], state: State, word: u16) -> Ticked
-    ensures { result ≡ ticked table_form table.now state word }
-{
-    let stood = cell_standing(table, state.at);
-    let tested = state_verdict(stood.verdict, stood.node, state);
-    let went = go(tested, stood.node, state, word);
-    answer(
-        went.verdict,
-        went.taken.state,
-        cell_at(table, went.taken.state.at),
-    )
-}
-
-pub fn tick_sheet(sheet: &[u8], state: State, word: u16) -> Ticked
-    ensures { result ≡ ticked sheet_form sheet.now state word }
-{
-    let stood = step_standing(sheet, state.at);
-    let tested = state_verdict(stood.verdict, stood.node, state);
-    let went = go(tested, stood.node, state, word);
-    answer(
-        went.verdict,
-        went.taken.state,
-        node_at(sheet, went.taken.state.at),
-    )
-}
-
-// What shows at a state: the tick's tests without the word, the state unchanged.
-pub fn show_table(table: &[u8], state: State) -> Ticked
-    ensures { result ≡ shown_at table_form table.now state }
-{
-    let shown = cell_standing(table, state.at);
-    let tested = state_verdict(shown.verdict, shown.node, state);
-    answer(tested, state, shown.node)
-}
-
-pub fn show_sheet(sheet: &[u8], state: State) -> Ticked
-    ensures { result ≡ shown_at sheet_form sheet.now state }
-{
-    let shown = step_standing(sheet, state.at);
-    let tested = state_verdict(shown.verdict, shown.node, state);
-    answer(tested, state, shown.node)
-}
-
-// The sheet's tests, then the step's number.
-fn step_standing(sheet: &[u8], k: u8) -> Standing
-    ensures { result ≡ standing_at sheet_form sheet.now k }
-{
-    let verdict = sheet_verdict(sheet).unless(k < step_count(sheet), UNREACHABLE, 0);
-    let node = node_at(sheet, k);
-    Standing { verdict, node }
 }

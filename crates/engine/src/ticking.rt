@@ -1,58 +1,40 @@
-// What every call makes on nodes: it knows nothing of bytes.
-ghost use Rattle.std.specs.Prelude.{◌≡◌};
-ghost use Rattle.engine.specs.Engine.{state_tested, went_from, answered_at};
+// What every call makes on nodes, whatever the form.
+ghost use Rattle.std.specs.Prelude.{◌≡◌, IfOk};
+ghost use Rattle.records.specs.Answers.{verdict_of};
+ghost use Rattle.engine.specs.Answers.{as_ticked};
+ghost use Rattle.engine.specs.Engine.{nodes_of, state_verdict, ticked, shown_at};
 
-use crate::Ticked;
-use machine::{Exit, Node, State, Taken};
-use records::{BAD_WORD, UNREACHABLE, Verdict, accepted};
+use crate::{Form, Shown};
+use machine::{Node, State};
+use records::{Number, Refusal, ensure};
 
-// Where a tick leads; a refusal takes no exit, and stays.
-#[derive(Clone, Copy)]
-pub(crate) struct Went {
-    pub(crate) verdict: Verdict,
-    pub(crate) taken: Taken,
+// One tick with a word of faults.
+#[tactic(auto, using(records::proofs::ReturnLaws::tests), unfolding(crate::specs::Engine::ticked, crate::specs::Engine::went_from, crate::specs::Engine::answered_at, crate::specs::Engine::word_verdict, machine::specs::Fields::word_in_range))]
+pub fn tick<F: Form>(bytes: &[u8], state: &mut State, word: u16) -> Result<Shown, Refusal>
+    ensures { as_ticked state.new result ≡ ticked F.form bytes.now state.old word }
+{
+    let node = stood::<F>(bytes, *state)?;
+    ensure(word < 1024, Number::BadWord, 0)?;
+    *state = machine::tick(node, word, *state).state;
+    Ok(F::node_at(bytes, state.at).into())
 }
 
-// The tests of standing at a node, then elapsed there.
-pub(crate) fn state_verdict(standing: Verdict, node: Node, state: State) -> Verdict
-    ensures { result ≡ state_tested standing node state }
+// What shows at a state: the tick's tests without the word, the state unchanged.
+#[tactic(auto, unfolding(crate::specs::Engine::shown_at, crate::specs::Engine::answered_at))]
+pub fn show<F: Form>(bytes: &[u8], state: State) -> Result<Shown, Refusal>
+    ensures { as_ticked state result ≡ shown_at F.form bytes.now state }
 {
+    stood::<F>(bytes, state).map(Shown::from)
+}
+
+// The node at which a state stands: the tests of standing there, then elapsed.
+#[tactic(auto, using(records::proofs::ReturnLaws::tests), unfolding(crate::specs::Engine::state_verdict, crate::specs::Engine::state_tested))]
+fn stood<F: Form>(bytes: &[u8], state: State) -> Result<Node, Refusal>
+    ensures verdict { verdict_of result ≡ state_verdict F.form bytes.now state }
+    ensures node { IfOk result (λ node. node ≡ nodes_of F.form bytes.now state.at) }
+{
+    let node = F::standing(bytes, state.at)?;
     let lasts = machine::elapsed_in_range(node.timeout, state.elapsed);
-    standing.unless(lasts, UNREACHABLE, 0)
-}
-
-// The word is tested, and the tick made.
-pub(crate) fn go(tested: Verdict, node: Node, state: State, word: u16) -> Went
-    ensures { result ≡ went_from tested node state word }
-{
-    let verdict = tested.unless(word < 1024, BAD_WORD, 0);
-    if verdict.number != 0 {
-        let taken = Taken {
-            exit: Exit::Stay,
-            state,
-        };
-        return Went { verdict, taken };
-    }
-    let taken = machine::tick(node, word, state);
-    Went { verdict, taken }
-}
-
-// What shows at a state; or the refusal.
-pub(crate) fn answer(verdict: Verdict, state: State, node: Node) -> Ticked
-    ensures { result ≡ answered_at verdict state node }
-{
-    if verdict.number != 0 {
-        return Ticked {
-            verdict,
-            state,
-            outputs: 0,
-            step: 0,
-        };
-    }
-    Ticked {
-        verdict: accepted(),
-        state,
-        outputs: node.outputs,
-        step: node.step,
-    }
+    ensure(lasts, Number::Unreachable, 0)?;
+    Ok(node)
 }
