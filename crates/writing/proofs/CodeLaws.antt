@@ -1,20 +1,19 @@
 -- Laws of codes: the search through a table, and what a look-up's answer says. Assumes nothing.
-use Prim.Native.Nat.{ℕ, suc, ◌+◌, ◌*◌, ◌^◌, ◌≤◌, ◌<◌}
+use Prim.Native.Nat.{ℕ, suc, ◌+◌, ◌*◌, ◌^◌, ◌<◌}
 use mathlib.Core.Path.{◌≡◌, refl, ap, sym, ◌∙◌}
 use mathlib.Core.Bool.{Bool, true, false, cond}
 use mathlib.Core.List.{List, [], ◌∷◌}
 use native.Mathlib.Numerals.{add-one}
 use native.Mathlib.Omega.{arith}
-use borrow.Author.Tests.{eq-eqb, ne_eqb}
 use lib.Dec.{eqb}
-use lib.ListN.{length, get_or, drop, drop_of_length-le}
-use lib.Seq.{drop-cons}
+use lib.ListN.{length}
 use Rattle.records.specs.Bits.{joined}
 use Rattle.records.proofs.BitLaws.{joined_sum}
 use Rattle.image.specs.Codes.{code_number, lookup_from, lookup, fault_code, source_code, pull_code}
 use Rattle.writing.specs.Writing.{beside, flag, code_verdict}
-use Rattle.image.specs.declared.Code.{Code}
-use Rattle.image.specs.declared.Code.TheVariants.{Is, Lacking}
+use Rattle.std.specs.Prelude.{Option, Some, None, position}
+use Rattle.std.specs.List.{position_from}
+use Rattle.std.proofs.lemmas.Iterator.Adapters.{position_from-zero}
 use Rattle.image.specs.declared.FaultType.{FaultType}
 use Rattle.image.specs.declared.FaultType.TheVariants.{Over, UnderOrOver, Under, Off}
 use Rattle.image.specs.declared.Source.{Source}
@@ -22,24 +21,20 @@ use Rattle.image.specs.declared.Source.TheVariants.{Disabled, Engine, DrivenLow,
 use Rattle.image.specs.declared.Pull.{Pull}
 use Rattle.image.specs.declared.Pull.TheVariants.{Unpulled, Vddcap300k, WeakVp1, PushPullVp1, WeakVp2, PushPullVp2, WeakVp3, PushPullVp3, WeakVp4, PushPullVp4, WeakVddcap, PushPullVddcap}
 
--- ---- a loop over a table that returns the first place of a value: what is left gives the whole answer
-module _ (table : List ℕ) (value i : ℕ) where
-  next : i < length table
-      → lookup_from i (drop i table) value ≡ cond (eqb (get_or table i 0) value) (Is i) (lookup_from (suc i) (drop (suc i) table) value)
-  next h = ap (λ (l : List ℕ). lookup_from i l value) (drop-cons table i 0 h)
+-- ---- the library's search finds the lowest place
+-- the test of the code
+abbrev pub equals : ℕ → ℕ → Bool
+equals value x = eqb x value
 
-  pub lookup_hit : i < length table → get_or table i 0 ≡ value → lookup_from i (drop i table) value ≡ Is i
-  lookup_hit h e = next h ∙ rw (eq-eqb _ _ e)
+position_lowest : (i : ℕ) (table : List ℕ) (value : ℕ) → position_from (equals value) i table ≡ lookup_from i table value
+position_lowest i [] value = refl
+position_lowest i (x ∷ table) value = ap (cond (eqb x value) (Some i)) (position_lowest (i + 1) table value ∙ ap (λ (k : ℕ). lookup_from k table value) (add-one i))
 
-  pub lookup_pass : i < length table → (get_or table i 0 ≡ value → ⊥)
-      → lookup_from i (drop i table) value ≡ lookup_from (i + 1) (drop (i + 1) table) value
-  lookup_pass h e = next h ∙ rw (ne_eqb _ _ e, add-one)
-
-  pub lookup_end : length table ≤ i → lookup_from i (drop i table) value ≡ Lacking
-  lookup_end h = ap (λ (l : List ℕ). lookup_from i l value) (drop_of_length-le table h)
+pub lookup_found : (table : List ℕ) (value : ℕ) → position (equals value) table ≡ lookup table value
+lookup_found table value = position_from-zero (equals value) table ∙ position_lowest 0 table value
 
 -- ---- a code has room in its field
-within : (b : Bool) (i c n : ℕ) (rest : Code) → cond b (Is i) rest ≡ Is c → (rest ≡ Is c → c < suc i + n) → c < i + suc n
+within : (b : Bool) (i c n : ℕ) (rest : Option ℕ) → cond b (Some i) rest ≡ Some c → (rest ≡ Some c → c < suc i + n) → c < i + suc n
 within true i c n rest e h =
     let here : i ≡ c = cc in
     omega arith
@@ -47,13 +42,13 @@ within false i c n rest e h =
     let later : c < suc i + n = h e in
     omega arith
 
-lookup_below : (i : ℕ) (table : List ℕ) (value c : ℕ) → lookup_from i table value ≡ Is c → c < i + length table
+lookup_below : (i : ℕ) (table : List ℕ) (value c : ℕ) → lookup_from i table value ≡ Some c → c < i + length table
 lookup_below i [] value c e =
     let never : ◌≡◌ {A = ℕ} 0 1 = cc in
     omega arith
 lookup_below i (x ∷ table) value c e = within (eqb x value) i c (length table) _ e (lookup_below (suc i) table value c)
 
-pub lookup_lt : (table : List ℕ) (value c : ℕ) → lookup table value ≡ Is c → c < length table
+pub lookup_lt : (table : List ℕ) (value c : ℕ) → lookup table value ≡ Some c → c < length table
 lookup_lt table value c e = omega (arith, lookup_below 0 table value c e)
 
 pub flag_lt : (b : Bool) → flag b < 2
@@ -87,10 +82,10 @@ pull_lt WeakVddcap = omega arith
 pull_lt PushPullVddcap = omega arith
 
 -- ---- two codes in one byte
-pub beside_joined : (high low rest : ℕ) → high * 2 ^ low < 2 ^ 8 → rest < 2 ^ low → beside (Is high) low (Is rest) ≡ Is (joined high low rest)
-beside_joined high low rest room below = ap Is (sym (joined_sum high low rest room below))
+pub beside_joined : (high low rest : ℕ) → high * 2 ^ low < 2 ^ 8 → rest < 2 ^ low → beside (Some high) low (Some rest) ≡ Some (joined high low rest)
+beside_joined high low rest room below = ap Some (sym (joined_sum high low rest room below))
 
 -- ---- the test of a code
-pub code_passes : (code : Code) (address : ℕ) → code_number code ≡ 0 → (code_verdict code address).number ≡ 0
-code_passes (Is c) address h = refl
-code_passes Lacking address h = h
+pub code_passes : (code : Option ℕ) (address : ℕ) → code_number code ≡ 0 → (code_verdict code address).number ≡ 0
+code_passes (Some c) address h = refl
+code_passes None address h = h

@@ -1,17 +1,21 @@
--- `writing::codes::lookup` meets its contract: what is left of the table gives the whole answer. Assumes nothing.
-use mathlib.Core.Path.{refl, sym, ◌∙◌}
-use native.Mathlib.Omega.{arith}
-use Rattle.writing.proofs.CodeLaws.{lookup_hit, lookup_pass, lookup_end}
+-- `writing::codes::lookup` meets its contract: the library's search finds the lowest place. Assumes nothing.
+use Rattle.std.proofs.Common.{rules, tests, ◌≡◌, sym, ◌∙◌}
+use Rattle.std.proofs.lemmas.Iterator.{YieldsList-from_slice}
+use Rattle.std.proofs.lemmas.Iterator.Search.{position_from_yields_List}
+use Rattle.image.specs.Codes.{lookup}
+use Rattle.writing.proofs.CodeLaws.{equals, lookup_found}
 use Rattle.writing.proofs.codes.lookup.Goals as goal
 
-pub loop-i-init : goal.loop-i-init
-loop-i-init c = (omega arith, refl)
-
-pub returns-then-table-i : goal.returns-then-table-i
-returns-then-table-i c = sym (c.loop-i.invariant.1 ∙ lookup_hit _ _ _ c.loop-i-test.true c.if-table-i.true)
-
-pub loop-i-preserved : goal.loop-i-preserved
-loop-i-preserved c = (omega arith, c.loop-i.invariant.1 ∙ lookup_pass _ _ _ c.loop-i-test.true c.if-table-i.false)
+pub returns-in_err-place : goal.returns-in_err-place
+returns-in_err-place c =
+    let table = c.args.table.now in
+    let found : c.position.result ≡ lookup table c.args.value =
+    position_from_yields_List (equals c.args.value) _ _ c.position.result c.position.ensures.ran (YieldsList-from_slice table cc) (λ x b q k. search (rules, tests)) ∙ lookup_found table c.args.value in
+    c.from_residual.ensures ∙ sym c.in_err-place.was ∙ found
 
 pub returns : goal.returns
-returns c = sym (c.loop-i.invariant.1 ∙ lookup_end _ _ _ c.loop-i-test.false)
+returns c =
+    let table = c.args.table.now in
+    let found : c.position.result ≡ lookup table c.args.value =
+    position_from_yields_List (equals c.args.value) _ _ c.position.result c.position.ensures.ran (YieldsList-from_slice table cc) (λ x b q k. search (rules, tests)) ∙ lookup_found table c.args.value in
+    sym c.in_ok-place.was ∙ found
