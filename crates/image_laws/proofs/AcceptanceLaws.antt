@@ -17,8 +17,7 @@ use Rattle.records.proofs.VerdictLaws.{number_of, place_of, first_accepted}
 use Rattle.records.proofs.TestLaws.{LowestWithout, ShowsLowest, NamesLowest, shows_lowest_of}
 use Rattle.image.specs.Reading.{usable, printed, byte_verdict, address_verdict, image_verdict}
 use Rattle.writing.specs.Writing.{setting_byte, code_verdict, settings_verdict}
-use Rattle.image.specs.declared.Code.{Code}
-use Rattle.image.specs.declared.Code.TheVariants.{Is, Lacking}
+use Rattle.std.specs.Prelude.{Option, Some, None}
 use Rattle.image.specs.declared.Settings.{Settings}
 use Rattle.image_laws.proofs.TableLaws.{never_lacking}
 use Rattle.image_laws.proofs.Conditions.{GoodByte, Reached}
@@ -143,13 +142,13 @@ module _ (image : List ℕ) where
           (exactly at.0.eighty).1 (record { within = at.0.inside; fails = bad; before = at.0.below }, at.1)
 
 -- ---- one setting
-code_meant : (code : Code) (a : ℕ) → ((code_verdict code a).number ≡ 0) ↔ (¬ (code ≡ Lacking))
-code_meant (Is b) a = (λ pass. never_lacking, λ is. refl)
-code_meant Lacking a = (λ pass. unlike pass tt, λ is. absurd (is refl))
+code_meant : (code : Option ℕ) (a : ℕ) → ((code_verdict code a).number ≡ 0) ↔ (¬ (code ≡ None))
+code_meant (Some b) a = (λ pass. never_lacking, λ is. refl)
+code_meant None a = (λ pass. unlike pass tt, λ is. absurd (is refl))
 
-pub not_meant : (code : Code) → ¬ (¬ (code ≡ Lacking)) → code ≡ Lacking
-not_meant (Is b) lacks = absurd (lacks never_lacking)
-not_meant Lacking lacks = refl
+pub not_meant : (code : Option ℕ) → ¬ (¬ (code ≡ None)) → code ≡ None
+not_meant (Some b) lacks = absurd (lacks never_lacking)
+not_meant None lacks = refl
 
 -- ---- the tests of settings
 module _ (settings : Settings) where
@@ -159,12 +158,12 @@ module _ (settings : Settings) where
   settings_zero = first_accepted (each (λ a. code_verdict (setting_byte settings a) a) 0 80)
 
   -- accepted exactly where some byte means each setting; else number 4 at the lowest that none means
-  pub settings_lowest : NamesLowest (settings_verdict settings) out_of_range 80 (λ a. ¬ (setting_byte settings a ≡ Lacking))
+  pub settings_lowest : NamesLowest (settings_verdict settings) out_of_range 80 (λ a. ¬ (setting_byte settings a ≡ None))
   unfolding settings_verdict
   settings_lowest =
       let all = shows_lowest_of (λ a. code_verdict (setting_byte settings a) a) 80 _ (λ a. code_meant (setting_byte settings a) a) in
       record {
         accepts = all.accepts;
         refuses = all.refuses;
-        names = λ a low. all.names a low ∙ ap (λ (code : Code). code_verdict code a) (not_meant (setting_byte settings a) low.fails);
+        names = λ a low. all.names a low ∙ ap (λ (code : Option ℕ). code_verdict code a) (not_meant (setting_byte settings a) low.fails);
       }

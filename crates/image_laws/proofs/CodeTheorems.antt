@@ -12,7 +12,7 @@ use lib.Dec.{ltb, leb}
 use lib.ListN.{length, get_or}
 use Rattle.image_laws.proofs.TableLaws.{everywhere, at_each, is_code, is_code_lem, never_lacking, View, view}
 use Rattle.image.specs.Codes.{lookup, times, pulses, fault_types, fault_code, sources, source_code, source_printed, pulls, pull_code, pull_printed}
-use Rattle.image.specs.declared.Code.TheVariants.{Is, Lacking}
+use Rattle.std.specs.Prelude.{Some, None}
 use Rattle.image.specs.declared.FaultType.{FaultType}
 use Rattle.image.specs.declared.FaultType.TheVariants.{Over, UnderOrOver, Under, Off}
 use Rattle.image.specs.declared.Source.{Source}
@@ -33,7 +33,7 @@ all_printed code = true
 
 -- ---- times and pulses
 module _ (table : List ℕ) (value : ℕ) where
-  found : (code : ℕ) → View 0 table value → lookup table value ≡ Is code → LowestCode table 0 all_printed value code
+  found : (code : ℕ) → View 0 table value → lookup table value ≡ Some code → LowestCode table 0 all_printed value code
   found code (View.hit c inside same before is) e =
       let here : code ≡ c = cc (zero-add c) in
       record {
@@ -44,27 +44,27 @@ module _ (table : List ℕ) (value : ℕ) where
       }
   found code (View.miss none is) e = absurd (never_lacking (sym e ∙ is))
 
-  finds : (code : ℕ) → View 0 table value → LowestCode table 0 all_printed value code → lookup table value ≡ Is code
+  finds : (code : ℕ) → View 0 table value → LowestCode table 0 all_printed value code → lookup table value ≡ Some code
   finds code (View.hit c inside same before is) low =
       let least = low.lowest c inside refl same in
       let here : c ≡ code = elim (dec_lt code c) [ yes q ↦ absurd (before code q low.means) | no q ↦ omega arith ] in
-      is ∙ ap Is (zero-add c ∙ here)
+      is ∙ ap Some (zero-add c ∙ here)
   finds code (View.miss none is) low = absurd (none code low.inside low.means)
 
   -- a look-up answers the lowest code of its value
-  pub lookup_is : (code : ℕ) → (lookup table value ≡ Is code) ↔ LowestCode table 0 all_printed value code
+  pub lookup_is : (code : ℕ) → (lookup table value ≡ Some code) ↔ LowestCode table 0 all_printed value code
   lookup_is code = (found code (view 0 table value), finds code (view 0 table value))
 
-  lacked : View 0 table value → lookup table value ≡ Lacking → (c : ℕ) → c < length table → ¬ (get_or table c 0 ≡ value)
+  lacked : View 0 table value → lookup table value ≡ None → (c : ℕ) → c < length table → ¬ (get_or table c 0 ≡ value)
   lacked (View.hit c inside same before is) e = absurd (never_lacking (sym is ∙ e))
   lacked (View.miss none is) e = none
 
-  lacks : View 0 table value → ((c : ℕ) → c < length table → ¬ (get_or table c 0 ≡ value)) → lookup table value ≡ Lacking
+  lacks : View 0 table value → ((c : ℕ) → c < length table → ¬ (get_or table c 0 ≡ value)) → lookup table value ≡ None
   lacks (View.hit c inside same before is) none = absurd (none c inside same)
   lacks (View.miss none is) _ = is
 
   -- a look-up lacks a code for just the values that the table lacks
-  pub lookup_lacking : (lookup table value ≡ Lacking) ↔ ((c : ℕ) → c < length table → ¬ (get_or table c 0 ≡ value))
+  pub lookup_lacking : (lookup table value ≡ None) ↔ ((c : ℕ) → c < length table → ¬ (get_or table c 0 ≡ value))
   lookup_lacking = (lacked (view 0 table value), lacks (view 0 table value))
 
 -- the look-up of an entry finds the entry's own code
@@ -72,15 +72,15 @@ abbrev own : List ℕ → ℕ → Bool
 own table code = is_code (lookup table (get_or table code 0)) code
 
 inverse : (table : List ℕ) → everywhere (own table) (length table) ≡ true
-    → (code : ℕ) → code < length table → lookup table (get_or table code 0) ≡ Is code
+    → (code : ℕ) → code < length table → lookup table (get_or table code 0) ≡ Some code
 inverse table holds code below = is_code_lem (lookup table (get_or table code 0)) code (at_each (own table) (length table) holds code below)
 
 -- the eight filter codes: the code of a code's time is that code
-pub time_code : (code : ℕ) → code < 8 → lookup times (get_or times code 0) ≡ Is code
+pub time_code : (code : ℕ) → code < 8 → lookup times (get_or times code 0) ≡ Some code
 time_code = inverse times refl
 
 -- the four pulse codes: the code of a code's pulse is that code
-pub pulse_code : (code : ℕ) → code < 4 → lookup pulses (get_or pulses code 0) ≡ Is code
+pub pulse_code : (code : ℕ) → code < 4 → lookup pulses (get_or pulses code 0) ≡ Some code
 pulse_code = inverse pulses refl
 
 -- ---- named kinds

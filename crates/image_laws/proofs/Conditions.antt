@@ -9,7 +9,7 @@ use Rattle.records.specs.Verdicts.{accepted}
 use Rattle.records.specs.declared.Verdict.{Verdict}
 use Rattle.image.specs.Reading.{usable, printed, group_at}
 use Rattle.writing.specs.Writing.{setting_byte}
-use Rattle.image.specs.declared.Code.TheVariants.{Lacking}
+use Rattle.std.specs.Prelude.{None}
 use Rattle.image.specs.declared.Settings.{Settings}
 
 -- ---- the image
@@ -51,12 +51,12 @@ pub record Typed (settings : Settings) : Type 0 where
 
 -- at every address below n some byte means the setting
 abbrev pub MeantBelow : Settings → ℕ → Type 0
-MeantBelow settings n = (a : ℕ) → a < n → ¬ (setting_byte settings a ≡ Lacking)
+MeantBelow settings n = (a : ℕ) → a < n → ¬ (setting_byte settings a ≡ None)
 
 -- at a the lowest setting that no byte of its group can mean
 pub record LowestLacking (settings : Settings) (a : ℕ) : Type 0 where
   pub inside : a < 80
-  pub lacking : setting_byte settings a ≡ Lacking
+  pub lacking : setting_byte settings a ≡ None
   pub below : MeantBelow settings a
 
 -- what the verdict of settings can be

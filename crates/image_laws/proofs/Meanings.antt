@@ -11,8 +11,7 @@ use Rattle.records.specs.Verdicts.{accepted}
 use Rattle.image.specs.Codes.{code_value, lookup, times, fault_code, input_code}
 use Rattle.image.specs.Reading.{image_verdict, threshold_of, group_of, settings_of, group_at}
 use Rattle.writing.specs.Writing.{beside, hysteresis_byte, timing_byte, logic_byte, output_byte, group_bytes, setting_byte, settings_verdict, image_of}
-use Rattle.image.specs.declared.Code.{Code}
-use Rattle.image.specs.declared.Code.TheVariants.{Is, Lacking}
+use Rattle.std.specs.Prelude.{Option, Some, None}
 use Rattle.image.specs.declared.FaultType.{FaultType}
 use Rattle.image.specs.declared.Group.{Group}
 use Rattle.image.specs.declared.Settings.{Settings}
@@ -43,24 +42,24 @@ SameAt j g h =
     j (Unit {0})
 
 -- they have the same byte there
-same_byte : (k : ℕ) (g h : Group) (j : ℕ) → j < 8 → SameAt j g h → get_or (group_bytes k g) j Lacking ≡ get_or (group_bytes k h) j Lacking
+same_byte : (k : ℕ) (g h : Group) (j : ℕ) → j < 8 → SameAt j g h → get_or (group_bytes k g) j None ≡ get_or (group_bytes k h) j None
 unfolding group_bytes timing_byte
 same_byte k g h =
-    eight (λ j. SameAt j g h → get_or (group_bytes k g) j Lacking ≡ get_or (group_bytes k h) j Lacking)
-    (ap Is)
+    eight (λ j. SameAt j g h → get_or (group_bytes k g) j None ≡ get_or (group_bytes k h) j None)
+    (ap Some)
     (ap hysteresis_byte)
-    (ap Is)
+    (ap Some)
     (ap hysteresis_byte)
-    (λ same. ap₂ (λ (delay : ℕ) (faults : FaultType). beside (lookup times delay) 2 (Is (fault_code faults))) same.0 same.1)
+    (λ same. ap₂ (λ (delay : ℕ) (faults : FaultType). beside (lookup times delay) 2 (Some (fault_code faults))) same.0 same.1)
     (ap (input_code k))
     (ap (logic_byte k))
     (ap output_byte)
 
 -- a byte that is written means what it was written for
-byte_means : (k : ℕ) (g : Group) (b j : ℕ) → j < 8 → get_or (group_bytes k g) j Lacking ≡ Is b → SameAt j (group_of k (replicate 8 b)) g
+byte_means : (k : ℕ) (g : Group) (b j : ℕ) → j < 8 → get_or (group_bytes k g) j None ≡ Some b → SameAt j (group_of k (replicate 8 b)) g
 unfolding group_bytes group_of threshold_of
 byte_means k g b =
-    eight (λ j. get_or (group_bytes k g) j Lacking ≡ Is b → SameAt j (group_of k (replicate 8 b)) g)
+    eight (λ j. get_or (group_bytes k g) j None ≡ Some b → SameAt j (group_of k (replicate 8 b)) g)
     (λ e. sym (ap code_value e))
     (λ e. (hysteresis_back g.over.hysteresis b e).0)
     (λ e. sym (ap code_value e))
@@ -76,22 +75,22 @@ abbrev pub NoneMeans : ℕ → ℕ → Group → Type 0
 NoneMeans k j g = (bytes : List ℕ) → get_or bytes j 0 < 256 → GoodByte k j (get_or bytes j 0) → ¬ SameAt j (group_of k bytes) g
 
 module _ (k j : ℕ) (inside : j < 8) (g : Group) where
-  lacking_none : get_or (group_bytes k g) j Lacking ≡ Lacking → NoneMeans k j g
+  lacking_none : get_or (group_bytes k g) j None ≡ None → NoneMeans k j g
   lacking_none lacking bytes byte good same =
       never_lacking
       (sym (read_write k bytes j inside byte good.can_be_used good.is_printed) ∙ same_byte k (group_of k bytes) g j inside same ∙ lacking)
 
   none_lacking : g.over.level < 256 → g.under.level < 256 → NoneMeans k j g
-      → (code : Code) → get_or (group_bytes k g) j Lacking ≡ code → code ≡ Lacking
-  none_lacking over under none (Is b) e =
+      → (code : Option ℕ) → get_or (group_bytes k g) j None ≡ code → code ≡ None
+  none_lacking over under none (Some b) e =
       let here : get_or (replicate 8 b) j 0 ≡ b = get_or-replicate 8 j b 0 inside in
       absurd
       (none (replicate 8 b) (rw here (write_byte k g over under j inside b e)) (rw here (write_good k g j inside b e)) (byte_means k g b j inside e))
-  none_lacking over under none Lacking e = refl
+  none_lacking over under none None e = refl
 
 -- "any setting that no byte of its group can mean": a setting lacks a byte exactly when no good byte at its address means it
 pub setting_lacking : (settings : Settings) → Typed settings → (a : ℕ)
-    → (setting_byte settings a ≡ Lacking) ↔ NoneMeans (a / 8) (a % 8) (group_at settings (a / 8))
+    → (setting_byte settings a ≡ None) ↔ NoneMeans (a / 8) (a % 8) (group_at settings (a / 8))
 unfolding setting_byte
 setting_lacking settings typed a = (
   lacking_none (a / 8) (a % 8) (omega arith) (group_at settings (a / 8)),

@@ -9,21 +9,20 @@ use Rattle.image.specs.Codes.{input_code}
 use Rattle.image.specs.Reading.{reserved_from, usable, printed, input_of, logic_of, output_of, threshold_of, group_of}
 use Rattle.writing.specs.Writing.{group_bytes, hysteresis_byte, timing_byte, logic_byte, pin_logic_byte, has_logic, output_byte}
 use Rattle.image.specs.Normal.{normal_byte, range_twice, pull_twice}
-use Rattle.image.specs.declared.Code.{Code}
-use Rattle.image.specs.declared.Code.TheVariants.{Is, Lacking}
+use Rattle.std.specs.Prelude.{Option, Some, None}
 use Rattle.image_laws.proofs.TableLaws.{everywhere, at_each, is_code, is_code_lem}
 use Rattle.image_laws.proofs.GroupLaws.{Same, Like, like, input_code_same, input_of_same, logic_byte_same, logic_of_same, reserved_same, normal_same}
 use Rattle.image_laws.proofs.ByteLaws.{eight, usable_below}
 
 -- byte j of what a group of eight bytes b means
-again : ℕ → ℕ → ℕ → Code
-again k j b = get_or (group_bytes k (group_of k (replicate 8 b))) j Lacking
+again : ℕ → ℕ → ℕ → Option ℕ
+again k j b = get_or (group_bytes k (group_of k (replicate 8 b))) j None
 
 -- byte j of a group reads byte j alone
-alone : (k : ℕ) (bytes : List ℕ) (j : ℕ) → j < 8 → get_or (group_bytes k (group_of k bytes)) j Lacking ≡ again k j (get_or bytes j 0)
+alone : (k : ℕ) (bytes : List ℕ) (j : ℕ) → j < 8 → get_or (group_bytes k (group_of k bytes)) j None ≡ again k j (get_or bytes j 0)
 unfolding again group_bytes group_of threshold_of timing_byte
 alone k bytes =
-    eight (λ j. get_or (group_bytes k (group_of k bytes)) j Lacking ≡ again k j (get_or bytes j 0)) refl refl refl refl refl refl refl refl
+    eight (λ j. get_or (group_bytes k (group_of k bytes)) j None ≡ again k j (get_or bytes j 0)) refl refl refl refl refl refl refl refl
 
 -- byte j of group k, where it is printed, comes back as the normal byte
 settles : ℕ → ℕ → ℕ → Bool
@@ -39,7 +38,7 @@ settled_all = (refl, refl, refl)
 
 -- what the test says
 abbrev Settled : ℕ → Type 0
-Settled k = (j : ℕ) → j < 8 → (b : ℕ) → b < 2 ^ reserved_from k j → printed j b ≡ true → again k j b ≡ Is (normal_byte k j b)
+Settled k = (j : ℕ) → j < 8 → (b : ℕ) → b < 2 ^ reserved_from k j → printed j b ≡ true → again k j b ≡ Some (normal_byte k j b)
 
 settled_at : (k : ℕ) → settled k ≡ true → Settled k
 unfolding settled settles
@@ -57,7 +56,7 @@ again_same {k} {m} same b =
 
 settled_same : {k m : ℕ} → Same k m → Settled m → Settled k
 settled_same {k} {m} same settles j inside b below is =
-    again_same same b j inside ∙ settles j inside b (rw (reserved_same same j) at below) is ∙ ap Is (sym (normal_same same j b))
+    again_same same b j inside ∙ settles j inside b (rw (reserved_same same j) at below) is ∙ ap Some (sym (normal_same same j b))
 
 settled_like : {k : ℕ} → Like k → Settled k
 settled_like (Like.vp same) = settled_same same (settled_at 0 settled_all.0)
@@ -67,6 +66,6 @@ settled_like (Like.vx same) = settled_same same (settled_at 5 settled_all.2)
 -- byte j of group k: what it means is written as its normal byte
 pub read_write : (k : ℕ) (bytes : List ℕ) (j : ℕ) → j < 8 → get_or bytes j 0 < 256
     → usable k j (get_or bytes j 0) ≡ true → printed j (get_or bytes j 0) ≡ true
-    → get_or (group_bytes k (group_of k bytes)) j Lacking ≡ Is (normal_byte k j (get_or bytes j 0))
+    → get_or (group_bytes k (group_of k bytes)) j None ≡ Some (normal_byte k j (get_or bytes j 0))
 read_write k bytes j inside byte can is =
     alone k bytes j inside ∙ settled_like (like k) j inside (get_or bytes j 0) (usable_below k j (get_or bytes j 0) byte can) is

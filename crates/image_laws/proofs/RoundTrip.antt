@@ -11,7 +11,7 @@ use Rattle.image.specs.Codes.{code_value}
 use Rattle.image.specs.Reading.{image_verdict, group_of, settings_of, reading}
 use Rattle.writing.specs.Writing.{setting_byte, settings_verdict, write_verdict, image_of, written}
 use Rattle.image.specs.Normal.{normal_byte, normal}
-use Rattle.image.specs.declared.Reading.{Reading}
+use Rattle.image.specs.Answers.{Reading}
 use Rattle.image.specs.declared.Settings.{Settings}
 use Rattle.image_laws.proofs.TableLaws.{never_lacking}
 use Rattle.records.proofs.VerdictLaws.{number_of}

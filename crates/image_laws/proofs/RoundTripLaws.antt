@@ -13,8 +13,7 @@ use Rattle.image.specs.Codes.{code_value}
 use Rattle.image.specs.Reading.{image_verdict, group_of, settings_of, zero_group, group_at}
 use Rattle.writing.specs.Writing.{group_bytes, setting_byte, settings_verdict, image_of}
 use Rattle.image.specs.Normal.{normal_byte}
-use Rattle.image.specs.declared.Code.{Code}
-use Rattle.image.specs.declared.Code.TheVariants.{Is, Lacking}
+use Rattle.std.specs.Prelude.{Option, Some, None}
 use Rattle.image.specs.declared.Group.{Group}
 use Rattle.image.specs.declared.Settings.{Settings}
 use Rattle.records.proofs.Every.{Bytes}
@@ -30,9 +29,9 @@ part_at : (image : List ℕ) (k j : ℕ) → j < 8 → get_or (part image k) j 0
 unfolding part
 part_at image k j inside = rw (get_or-take, get_or-drop)
 
-is_value : (code : Code) → ¬ (code ≡ Lacking) → code ≡ Is (code_value code)
-is_value (Is b) is = refl
-is_value Lacking is = absurd (is refl)
+is_value : (code : Option ℕ) → ¬ (code ≡ None) → code ≡ Some (code_value code)
+is_value (Some b) is = refl
+is_value None is = absurd (is refl)
 
 -- what the part of an image for group k means
 meant_by : List ℕ → ℕ → Group
@@ -47,9 +46,9 @@ module _ (settings : Settings) where
       ∙ ap (λ (n : ℕ). code_value (setting_byte settings n)) (zero-add a)
 
   module _ (pass : (settings_verdict settings).number ≡ 0) where
-    pub meant_at : (a : ℕ) → a < 80 → setting_byte settings a ≡ Is (get_or (image_of settings) a 0)
+    pub meant_at : (a : ℕ) → a < 80 → setting_byte settings a ≡ Some (get_or (image_of settings) a 0)
     meant_at a inside =
-        is_value (setting_byte settings a) ((settings_accepted settings).0 (settings_zero settings pass) a inside) ∙ ap Is (sym (image_at a inside))
+        is_value (setting_byte settings a) ((settings_accepted settings).0 (settings_zero settings pass) a inside) ∙ ap Some (sym (image_at a inside))
 
     -- the byte at an address, by its group and its place there
     pub image_good : GoodBelow (image_of settings) 80
@@ -84,13 +83,13 @@ module _ (settings : Settings) where
 
 -- ---- an image, read and written
 module _ (image : List ℕ) (bytes : Bytes image) (pass : (image_verdict image).number ≡ 0) where
-  pub setting_normal : (a : ℕ) → a < 80 → setting_byte (settings_of image) a ≡ Is (normal_byte (a / 8) (a % 8) (get_or image a 0))
+  pub setting_normal : (a : ℕ) → a < 80 → setting_byte (settings_of image) a ≡ Some (normal_byte (a / 8) (a % 8) (get_or image a 0))
   unfolding setting_byte settings_of meant_by
   setting_normal a inside =
       let group = each_at (meant_by image) 0 10 (a / 8) (zero_group (a / 8)) (omega arith) ∙ ap (meant_by image) (zero-add (a / 8)) in
       let here : 8 * (a / 8) + a % 8 ≡ a = omega arith in
       let byte = part_at image (a / 8) (a % 8) (omega arith) ∙ ap (λ (n : ℕ). get_or image n 0) here in
       let good = ((image_accepted image).0 (image_zero image pass)).1 a inside in
-      ap (λ (g : Group). get_or (group_bytes (a / 8) g) (a % 8) Lacking) group
+      ap (λ (g : Group). get_or (group_bytes (a / 8) g) (a % 8) None) group
       ∙ read_write (a / 8) (part image (a / 8)) (a % 8) (omega arith) (rw byte (bytes a)) (rw byte good.can_be_used) (rw byte good.is_printed)
-      ∙ ap (λ (b : ℕ). Is (normal_byte (a / 8) (a % 8) b)) byte
+      ∙ ap (λ (b : ℕ). Some (normal_byte (a / 8) (a % 8) b)) byte

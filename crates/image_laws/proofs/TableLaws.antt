@@ -10,8 +10,7 @@ use borrow.Author.Tests.{eq-eqb, ne_eqb, eqb-true}
 use lib.Dec.{eqb}
 use lib.ListN.{length, get_or}
 use Rattle.image.specs.Codes.{lookup_from}
-use Rattle.image.specs.declared.Code.{Code}
-use Rattle.image.specs.declared.Code.TheVariants.{Is, Lacking}
+use Rattle.std.specs.Prelude.{Option, Some, None}
 
 -- ---- a test at each number below n
 abbrev pub everywhere : (ℕ → Bool) → ℕ → Bool
@@ -28,29 +27,29 @@ at_each test (suc n) holds c below =
     ]
 
 -- ---- a code as a test
-pub never_lacking : {c : ℕ} → ¬ (Is c ≡ Lacking)
+pub never_lacking : {c : ℕ} → ¬ (Some c ≡ None)
 never_lacking {c} e = let z : ◌≡◌ {A = ℕ} 0 1 = cc in omega arith
 
-abbrev pub is_code : Code → ℕ → Bool
-is_code (Is code) c = eqb code c
-is_code Lacking c = false
+abbrev pub is_code : Option ℕ → ℕ → Bool
+is_code (Some code) c = eqb code c
+is_code None c = false
 
-pub is_code_lem : (code : Code) (c : ℕ) → is_code code c ≡ true → code ≡ Is c
-is_code_lem (Is code) c holds = ap Is (eqb-true code c holds)
-is_code_lem Lacking c holds = absurd (false≢true holds)
+pub is_code_lem : (code : Option ℕ) (c : ℕ) → is_code code c ≡ true → code ≡ Some c
+is_code_lem (Some code) c holds = ap Some (eqb-true code c holds)
+is_code_lem None c holds = absurd (false≢true holds)
 
 -- ---- what a look-up finds, counted from i
 pub data View (i : ℕ) (table : List ℕ) (value : ℕ) : Type 0 where
-  hit : (c : ℕ) → c < length table → get_or table c 0 ≡ value → ((d : ℕ) → d < c → ¬ (get_or table d 0 ≡ value)) → lookup_from i table value ≡ Is (i + c)
+  hit : (c : ℕ) → c < length table → get_or table c 0 ≡ value → ((d : ℕ) → d < c → ¬ (get_or table d 0 ≡ value)) → lookup_from i table value ≡ Some (i + c)
       → View i table value
-  miss : ((c : ℕ) → c < length table → ¬ (get_or table c 0 ≡ value)) → lookup_from i table value ≡ Lacking → View i table value
+  miss : ((c : ℕ) → c < length table → ¬ (get_or table c 0 ≡ value)) → lookup_from i table value ≡ None → View i table value
 
 next : (i x : ℕ) (xs : List ℕ) (value : ℕ) → ¬ (x ≡ value) → lookup_from i (x ∷ xs) value ≡ lookup_from (suc i) xs value
 next i x xs value other = rw (ne_eqb x value other)
 
 later : (i x : ℕ) (xs : List ℕ) (value : ℕ) → ¬ (x ≡ value) → View (suc i) xs value → View i (x ∷ xs) value
 later i x xs value other (hit c inside same before found) =
-    hit (suc c) (omega arith) same earlier (next i x xs value other ∙ found ∙ ap Is (suc-add i c ∙ sym (add-suc i c)))
+    hit (suc c) (omega arith) same earlier (next i x xs value other ∙ found ∙ ap Some (suc-add i c ∙ sym (add-suc i c)))
   where
     earlier : (d : ℕ) → d < suc c → ¬ (get_or (x ∷ xs) d 0 ≡ value)
     earlier zero q = other

@@ -12,8 +12,7 @@ use Rattle.image.specs.Groups.{is_vp, is_vh, is_vx}
 use Rattle.image.specs.Codes.{code_value, lookup, times, pulses, fault_types, fault_code, input_code, sources, source_code, source_printed, pulls, pull_code, pull_printed}
 use Rattle.image.specs.Reading.{reserved_from, usable, printed, input_of, no_logic, logic_of, output_of, threshold_of, group_of}
 use Rattle.writing.specs.Writing.{beside, flag, group_bytes, hysteresis_byte, timing_byte, logic_byte, pin_logic_byte, has_logic, output_byte}
-use Rattle.image.specs.declared.Code.{Code}
-use Rattle.image.specs.declared.Code.TheVariants.{Is, Lacking}
+use Rattle.std.specs.Prelude.{Option, Some, None}
 use Rattle.image.specs.declared.FaultType.TheVariants.{Over}
 use Rattle.image.specs.declared.Input.{Input}
 use Rattle.image.specs.declared.Input.TheVariants.{VpMid, VpLow, VpUltralow, VhLow, VhHigh, AnalogFault, LogicFault, LogicFaultAnalogWarning, NoFunction}
@@ -30,25 +29,25 @@ use Rattle.image_laws.proofs.CodeTheorems.{all_printed, LowestCode, lookup_is, f
 
 -- ---- codes
 -- a code where a test holds
-given : (holds : Bool) (code b : ℕ) → cond holds (Is code) Lacking ≡ Is b → (holds ≡ true) × (code ≡ b)
+given : (holds : Bool) (code b : ℕ) → cond holds (Some code) None ≡ Some b → (holds ≡ true) × (code ≡ b)
 given true code b e = (refl, ap code_value e)
 given false code b e = absurd (never_lacking (sym e))
 
 -- two codes in one byte
-record Beside (high : Code) (low : ℕ) (rest : Code) (b : ℕ) : Type 0 where
+record Beside (high : Option ℕ) (low : ℕ) (rest : Option ℕ) (b : ℕ) : Type 0 where
   above : ℕ
   below : ℕ
-  is_above : high ≡ Is above
-  is_below : rest ≡ Is below
+  is_above : high ≡ Some above
+  is_below : rest ≡ Some below
   sum : b ≡ above * 2 ^ low + below
 
-parts : (high : Code) (low : ℕ) (rest : Code) (b : ℕ) → beside high low rest ≡ Is b → Beside high low rest b
-parts (Is above) low (Is below) b e = record { above = above; below = below; is_above = refl; is_below = refl; sum = sym (ap code_value e) }
-parts (Is above) low Lacking b e = absurd (never_lacking (sym e))
-parts Lacking low rest b e = absurd (never_lacking (sym e))
+parts : (high : Option ℕ) (low : ℕ) (rest : Option ℕ) (b : ℕ) → beside high low rest ≡ Some b → Beside high low rest b
+parts (Some above) low (Some below) b e = record { above = above; below = below; is_above = refl; is_below = refl; sum = sym (ap code_value e) }
+parts (Some above) low None b e = absurd (never_lacking (sym e))
+parts None low rest b e = absurd (never_lacking (sym e))
 
 -- ---- bytes 1 and 3
-pub hysteresis_back : (hysteresis b : ℕ) → hysteresis_byte hysteresis ≡ Is b → (bits b 0 5 ≡ hysteresis) × (b < 32)
+pub hysteresis_back : (hysteresis b : ℕ) → hysteresis_byte hysteresis ≡ Some b → (bits b 0 5 ≡ hysteresis) × (b < 32)
 unfolding hysteresis_byte bits
 hysteresis_back hysteresis b e =
     let is = given (leb hysteresis 31) hysteresis b e in
@@ -57,11 +56,11 @@ hysteresis_back hysteresis b e =
     omega arith
 
 -- ---- byte 4
-pub timing_back : (group : Group) (b : ℕ) → timing_byte group ≡ Is b
+pub timing_back : (group : Group) (b : ℕ) → timing_byte group ≡ Some b
     → (get_or times (bits b 2 3) 0 ≡ group.delay) × (get_or fault_types (bits b 0 2) Over ≡ group.faults) × (b < 32)
 unfolding timing_byte bits
 timing_back group b e =
-    let p = parts (lookup times group.delay) 2 (Is (fault_code group.faults)) b e in
+    let p = parts (lookup times group.delay) 2 (Some (fault_code group.faults)) b e in
     let time = (lookup_is times group.delay p.above).0 p.is_above in
     let faults = fault_code_lem group.faults in
     let code : ℕ = p.above in
@@ -75,14 +74,14 @@ timing_back group b e =
 
 -- ---- byte 5
 -- a code of a group's own kind means what it means in any group of that kind
-input_own : (k m code b : ℕ) (own : Bool) → (own ≡ true → Same k m) → code < 2 ^ reserved_from m 5 → cond own (Is code) Lacking ≡ Is b
+input_own : (k m code b : ℕ) (own : Bool) → (own ≡ true → Same k m) → code < 2 ^ reserved_from m 5 → cond own (Some code) None ≡ Some b
     → (input_of k b ≡ input_of m code) × (b < 2 ^ reserved_from k 5)
 input_own k m code b own kind small e =
     let is = given own code b e in
     let same = kind is.0 in
     (input_of_same same b ∙ ap (input_of m) (sym is.1), rw (reserved_same same 5, ← is.1) small)
 
-pub input_back : (k : ℕ) (input : Input) (b : ℕ) → input_code k input ≡ Is b → (input_of k b ≡ input) × (b < 2 ^ reserved_from k 5)
+pub input_back : (k : ℕ) (input : Input) (b : ℕ) → input_code k input ≡ Some b → (input_of k b ≡ input) × (b < 2 ^ reserved_from k 5)
 unfolding input_of bits reserved_from
 input_back k VpMid b = input_own k 0 0 b (is_vp k) (same_vp k) (lit< tt)
 input_back k VpLow b = input_own k 0 1 b (is_vp k) (same_vp k) (lit< tt)
@@ -125,12 +124,12 @@ fields_back logic b pulse delay isPulse isDelay sum =
     let is-delay : get_or times (b / 1 % 8) 0 ≡ logic.delay = ap (λ (n : ℕ). get_or times n 0) none ∙ isDelay.means in
     (λ i. record { invert = is-invert i; edge = is-edge i; pulse = is-pulse i; delay = is-delay i }, omega arith)
 
-pin_logic_back : (logic : Logic) (b : ℕ) → pin_logic_byte logic ≡ Is b → (logic_of 5 b ≡ logic) × (b < 128)
+pin_logic_back : (logic : Logic) (b : ℕ) → pin_logic_byte logic ≡ Some b → (logic_of 5 b ≡ logic) × (b < 128)
 unfolding pin_logic_byte
 pin_logic_back logic b e =
-    let timed : Code = beside (lookup pulses logic.pulse) 3 (lookup times logic.delay) in
-    let p = parts (Is (flag logic.invert)) 6 (beside (Is (flag logic.edge)) 5 timed) b e in
-    let q = parts (Is (flag logic.edge)) 5 timed p.below p.is_below in
+    let timed : Option ℕ = beside (lookup pulses logic.pulse) 3 (lookup times logic.delay) in
+    let p = parts (Some (flag logic.invert)) 6 (beside (Some (flag logic.edge)) 5 timed) b e in
+    let q = parts (Some (flag logic.edge)) 5 timed p.below p.is_below in
     let r = parts (lookup pulses logic.pulse) 3 (lookup times logic.delay) q.below q.is_below in
     let one : p.above ≡ flag logic.invert = sym (ap code_value p.is_above) in
     let two : q.above ≡ flag logic.edge = sym (ap code_value q.is_above) in
@@ -157,14 +156,14 @@ no_logic_lem logic e =
     let is-delay = sym (zero_is logic.delay delay.1) in
     λ i. record { invert = is-invert i; edge = is-edge i; pulse = is-pulse i; delay = is-delay i }
 
-no_logic_back : (logic : Logic) (b : ℕ) (has : Bool) → has_logic logic ≡ has → cond has Lacking (Is 0) ≡ Is b → (no_logic ≡ logic) × (b < 1)
+no_logic_back : (logic : Logic) (b : ℕ) (has : Bool) → has_logic logic ≡ has → cond has None (Some 0) ≡ Some b → (no_logic ≡ logic) × (b < 1)
 no_logic_back logic b true is e = absurd (never_lacking (sym e))
 no_logic_back logic b false is e =
     let zero : 0 ≡ b = ap code_value e in
     (no_logic_lem logic is, omega arith)
 
 abbrev pub LogicBack : ℕ → Logic → ℕ → Type 0
-LogicBack k logic b = logic_byte k logic ≡ Is b → (logic_of k b ≡ logic) × (b < 2 ^ reserved_from k 6)
+LogicBack k logic b = logic_byte k logic ≡ Some b → (logic_of k b ≡ logic) × (b < 2 ^ reserved_from k 6)
 
 logic_like : (k m : ℕ) (logic : Logic) (b : ℕ) → Same k m → LogicBack m logic b → LogicBack k logic b
 logic_like k m logic b same back e =
@@ -181,7 +180,7 @@ pub logic_back : (k : ℕ) (logic : Logic) (b : ℕ) → LogicBack k logic b
 logic_back k logic b = logic_in k logic b (like k)
 
 -- ---- byte 7
-pub output_back : (output : Output) (b : ℕ) → output_byte output ≡ Is b → (output_of b ≡ output) × (b < 128) × (printed 7 b ≡ true)
+pub output_back : (output : Output) (b : ℕ) → output_byte output ≡ Some b → (output_of b ≡ output) × (b < 128) × (printed 7 b ≡ true)
 unfolding output_byte output_of printed bits
 output_back output b e =
     let source : ℕ = source_code output.source in
@@ -210,10 +209,10 @@ unfolding usable bits
 level_good k j b all is = record { can_be_used = rw all (eq-eqb (b / 256 % 1) 0 (omega arith)); is_printed = is }
 
 -- a byte that means a setting can be used and is printed
-pub write_good : (k : ℕ) (group : Group) (j : ℕ) → j < 8 → (b : ℕ) → get_or (group_bytes k group) j Lacking ≡ Is b → GoodByte k j b
+pub write_good : (k : ℕ) (group : Group) (j : ℕ) → j < 8 → (b : ℕ) → get_or (group_bytes k group) j None ≡ Some b → GoodByte k j b
 unfolding group_bytes reserved_from printed
 write_good k group =
-    eight (λ j. (b : ℕ) → get_or (group_bytes k group) j Lacking ≡ Is b → GoodByte k j b)
+    eight (λ j. (b : ℕ) → get_or (group_bytes k group) j None ≡ Some b → GoodByte k j b)
     (λ b e. level_good k 0 b refl refl)
     (λ b e. low_good k 1 b (hysteresis_back group.over.hysteresis b e).1 refl)
     (λ b e. level_good k 2 b refl refl)
@@ -225,10 +224,10 @@ write_good k group =
 
 -- and, as far as a level is a byte, is a byte
 pub write_byte : (k : ℕ) (group : Group) → group.over.level < 256 → group.under.level < 256
-    → (j : ℕ) → j < 8 → (b : ℕ) → get_or (group_bytes k group) j Lacking ≡ Is b → b < 256
+    → (j : ℕ) → j < 8 → (b : ℕ) → get_or (group_bytes k group) j None ≡ Some b → b < 256
 unfolding group_bytes
 write_byte k group over under =
-    eight (λ j. (b : ℕ) → get_or (group_bytes k group) j Lacking ≡ Is b → b < 256)
+    eight (λ j. (b : ℕ) → get_or (group_bytes k group) j None ≡ Some b → b < 256)
     (λ b e. rw (sym (ap code_value e)) over)
     (λ b e. let low = (hysteresis_back group.over.hysteresis b e).1 in omega arith)
     (λ b e. rw (sym (ap code_value e)) under)
@@ -239,7 +238,7 @@ write_byte k group over under =
     (λ b e. let low = (output_back group.output b e).1 in omega arith)
 
 -- the eight bytes that mean a group's settings are read as those settings
-pub write_read : (k : ℕ) (group : Group) (bytes : List ℕ) → ((j : ℕ) → j < 8 → get_or (group_bytes k group) j Lacking ≡ Is (get_or bytes j 0))
+pub write_read : (k : ℕ) (group : Group) (bytes : List ℕ) → ((j : ℕ) → j < 8 → get_or (group_bytes k group) j None ≡ Some (get_or bytes j 0))
     → group_of k bytes ≡ group
 unfolding group_bytes group_of threshold_of
 write_read k group bytes is =
