@@ -1,18 +1,22 @@
 -- Laws of the calls on a state's bytes: the tests of the bytes, a refusal, and the next state written. Assumes nothing.
 use Prim.Native.Nat.{ℕ, ◌/◌, ◌<◌}
-use mathlib.Core.Path.{◌≡◌, ap, ap₂, sym, subst, ◌∙◌}
+use mathlib.Core.Path.{◌≡◌, refl, ap, ap₂, sym, subst, ◌∙◌}
+use mathlib.Core.Bool.{Bool, true, false}
 use mathlib.Core.List.{List, [], ◌∷◌}
+use lib.Dec.{eqb}
 use native.Mathlib.Decide.{ℕ_discrete}
 use native.Mathlib.Omega.{arith}
 use borrow.Author.Tests.{eq-eqb, ne_eqb}
 use lib.ListN.{length, get_or}
-use Rattle.std.specs.Prelude.{Result, Ok, Err}
+use Rattle.std.specs.Prelude.{cond, Result, Ok, Err}
+use Rattle.records.specs.Lists.{copied}
 use Rattle.records.specs.Words.{high_byte}
-use Rattle.records.specs.Verdicts.{accepted, first_refusal}
+use Rattle.records.specs.Verdicts.{accepted, refused_unless, first_refusal}
 use Rattle.records.specs.declared.Number.{Number}
 use Rattle.records.specs.declared.Refusal.{Refusal}
 use Rattle.records.specs.declared.Verdict.{Verdict}
 use Rattle.records.proofs.ReturnLaws.{number_some}
+use Rattle.machine.specs.Machine.{start_state}
 use Rattle.machine.specs.declared.State.{State}
 use Rattle.states.specs.States.{state_from, state_bytes, bytes_verdict}
 use Rattle.states.proofs.StateLaws.{read_back, eight}
@@ -20,7 +24,7 @@ use Rattle.engine.specs.Answers.{as_ticked}
 use Rattle.engine.specs.Engine.{Form, refused_with, state_verdict, word_verdict, answered_at, went_from, ticked}
 use Rattle.engine.specs.declared.Shown.{Shown}
 use Rattle.engine.specs.declared.Ticked.{Ticked}
-use Rattle.state_calls.specs.StateCalls.{on_bytes, ticked_on}
+use Rattle.state_calls.specs.StateCalls.{start_verdict, start_written, on_bytes, ticked_on}
 
 -- ---- the tests of the bytes
 
@@ -32,6 +36,16 @@ module _ (bytes : Verdict) (received : State) (answer : Ticked) where
   pub on_bytes_refused : ¬ (bytes.number ≡ 0) → on_bytes bytes received answer ≡ refused_with bytes received
   unfolding on_bytes
   on_bytes_refused r = rw (ne_eqb bytes.number 0 r)
+
+-- ---- the start
+
+pub start_written_lem : (bytes : List ℕ) → copied (state_bytes start_state) bytes ≡ start_written bytes
+unfolding copied state_bytes start_written start_verdict
+start_written_lem bytes = chosen (eqb (length bytes) 8)
+  where
+    chosen : (right : Bool) → cond right (state_bytes start_state) bytes ≡ cond (eqb (refused_unless right 1 0).number 0) (state_bytes start_state) bytes
+    chosen true = refl
+    chosen false = refl
 
 -- ---- a tick
 

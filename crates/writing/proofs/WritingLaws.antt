@@ -243,7 +243,7 @@ module _ (settings : Settings) where
   unfolding settings_verdict
   settings_groups = first_records _ 8 0 10 ∙ ap first_refusal (each_ext _ _ 0 10 (λ k h. group_addresses (0 + k)))
 
-  -- where the settings are accepted, the encoder refuses no group, and its bytes are those of the group's addresses
+  -- where the settings are accepted, the encoder refuses no group
   module _ (accepts : (settings_verdict settings).number ≡ 0) (k : ℕ) (d : Group) where
     each_accepted : k < 10 → (settings_test settings.groups k).number ≡ 0
     each_accepted h = accepted_tests (settings_test settings.groups) 10 (sym (ap (λ (v : Verdict). v.number) settings_groups) ∙ accepts) k h
@@ -254,13 +254,18 @@ module _ (settings : Settings) where
     group_encoded (Err refusal) is ten h =
         absurd (number_some refusal.kind (ap (λ (v : Verdict). v.number) (group_tested settings.groups k d is ten h) ∙ each_accepted h))
 
-    pub bytes_encoded : (bytes : List ℕ) → as_encoded (Ok bytes) ≡ encoded k (get_or settings.groups k d)
-        → length settings.groups ≡ 10 → k < 10 → bytes ≡ each (byte_at settings) (8 * k) 8
-    unfolding setting_byte
-    bytes_encoded bytes is ten h =
-        ap (λ (e : Encoded). e.bytes) (is ∙ ap (encoded k) (get_d_default settings.groups k d (zero_group k) (omega arith)))
-        ∙ encoded_bytes k (group_in settings.groups k) (each_accepted h)
-        ∙ sym (each_record (λ q r a. code_value (code_at q (group_in settings.groups q) r)) 8 k)
+  -- where the settings are accepted, the encoder's bytes are those of the group's addresses
+  pub group_bytes_lem : (settings_verdict settings).number ≡ 0 → (k : ℕ) (d : Group) (answer : Encoded) → answer ≡ encoded k (get_or settings.groups k d)
+      → length settings.groups ≡ 10 → k < 10 → answer.bytes ≡ each (byte_at settings) (8 * k) 8
+  unfolding setting_byte
+  group_bytes_lem accepts k d answer is ten h =
+      ap (λ (e : Encoded). e.bytes) (is ∙ ap (encoded k) (get_d_default settings.groups k d (zero_group k) (omega arith)))
+      ∙ encoded_bytes k (group_in settings.groups k) (each_accepted accepts k d h)
+      ∙ sym (each_record (λ q r a. code_value (code_at q (group_in settings.groups q) r)) 8 k)
+
+  pub bytes_encoded : (settings_verdict settings).number ≡ 0 → (k : ℕ) (d : Group) (bytes : List ℕ) → as_encoded (Ok bytes) ≡ encoded k (get_or settings.groups k d)
+      → length settings.groups ≡ 10 → k < 10 → bytes ≡ each (byte_at settings) (8 * k) 8
+  bytes_encoded accepts k d bytes is ten h = group_bytes_lem accepts k d (as_encoded (Ok bytes)) is ten h
 
 -- ---- the writer's answer and the buffer
 module _ (settings : Settings) (buffer : List ℕ) where
