@@ -61,6 +61,10 @@ module _ (sheet : List ℕ) where
   unfolding first_cell
   first_suc i = refl
 
+  -- the same, counted as code counts
+  pub first_more : (i : ℕ) → first_cell sheet (i + 1) ≡ first_cell sheet i + cells_of sheet i
+  first_more i = ap (first_cell sheet) (add-one i) ∙ first_suc i
+
   -- all cells of a step stand before the first cell of any later step
   pub first_past : (i j : ℕ) → i < j → first_cell sheet i + cells_of sheet i ≤ first_cell sheet j
   first_past i zero h = absurd (not-suc-le-zero h)

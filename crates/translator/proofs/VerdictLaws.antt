@@ -7,9 +7,10 @@ use native.Mathlib.Omega.{arith}
 use borrow.Author.Tests.{eq-eqb, ne_eqb}
 use lib.Dec.{leb}
 use lib.ListN.{length, drop}
-use Rattle.records.specs.Verdicts.{refused_unless, first_refusal}
+use Rattle.records.specs.Verdicts.{accepted, refused_unless, first_refusal}
 use Rattle.records.specs.declared.Verdict.{Verdict}
 use Rattle.records.proofs.Every.{none, ◌also◌}
+use Rattle.records.proofs.ReturnLaws.{tests, number_some}
 use Rattle.records.proofs.VerdictLaws.{first_append, first_cons, number_of}
 use Rattle.records.proofs.TestLaws.{le_test, unless_passed, unless_passes, all_zero, all_pass}
 use Rattle.sheets.specs.Sheets.{sheet_tests, sheet_verdict}
@@ -24,6 +25,9 @@ module _ (sheet : List ℕ) (room : ℕ) where
   pub in_order : translation_verdict sheet room ≡ first_refusal (sheet_verdict sheet ∷ room_tests)
   unfolding translation_verdict sheet_verdict
   in_order = first_append (sheet_tests sheet) room_tests ∙ sym (first_cons _ _)
+
+  pub in_turn : {r : Verdict} → r ≡ first_refusal (sheet_verdict sheet ∷ room_tests) → r ≡ translation_verdict sheet room
+  in_turn e = e ∙ sym in_order
 
   -- every test passes
   pub record Accepted : Type 0 where
@@ -48,6 +52,16 @@ module _ (sheet : List ℕ) (room : ℕ) where
         ∙ all_zero _
         (a.sound also unless_passes (le_test _ _) _ _ a.few also unless_passes (le_test _ _) _ _ a.roomy also none),
   )
+
+  -- and there is room for it
+  pub room_for : accepted ≡ translation_verdict sheet room → 12 * cell_total sheet ≤ room
+  room_for e = (verdict_accepted.0 (ap number_of (sym e))).roomy
+
+-- the sheet's tests and the two that follow, one after the other
+pub ruleset in_turn_tests = (in_turn, tests)
+
+-- and what follows of the answer
+pub ruleset answered = (room_for, number_some)
 
 -- ---- the answer and the buffer
 

@@ -17,7 +17,8 @@ use Rattle.tables.proofs.CellBytes.{cell_length}
 use Rattle.tables.proofs.TableLaws.{part_taken}
 use Rattle.steps.specs.Steps.{step_count}
 use Rattle.translator.specs.Translation.{cells_of, first_cell, cell_total, cut_at, step_bytes, table_of}
-use Rattle.translator.proofs.CellCounts.{first_zero, first_suc}
+use Rattle.translator.proofs.CellCounts.{cells_least, first_zero, first_suc}
+use Rattle.translator.proofs.CutLeads.{step_within}
 use Rattle.translator.proofs.CutBytes.{steps_length}
 
 module _ (sheet table₀ : List ℕ) where
@@ -133,3 +134,7 @@ module _ (sheet table₀ : List ℕ) where
   unfolding table_of cell_total
   steps_all i first table so e =
       so.bytes ∙ ap₂ (λ (n m : ℕ). pieces (step_bytes sheet) 0 n ++ drop (12 * m) table₀) e (so.counted ∙ ap (first_cell sheet) e)
+
+pub ruleset cells_written = (cells_none, cells_more, cells_all, cells_least, step_within)
+
+pub ruleset steps_written = (steps_none, steps_more, steps_all, step_within)

@@ -8,7 +8,7 @@ use Rattle.machine.specs.declared.Node.{Node}
 use Rattle.tables.specs.Tables.{cell_bytes}
 use Rattle.steps.specs.Steps.{step_count, step_at}
 use Rattle.sheets.specs.Sheets.{sheet_tests, node_at}
-use Rattle.translator.specs.declared.Translation.{Translation}
+use Rattle.translator.specs.Answers.{Translation}
 
 -- ---- how many cells, and where they stand
 

@@ -5,12 +5,18 @@ mod cells;
 mod cut;
 mod writer;
 
-use records::Verdict;
+ghost use Rattle.std.specs.Prelude.{◌≡◌, ◌≤◌};
+ghost use Rattle.sheets.specs.Sheets.{sheet_verdict};
+ghost use Rattle.translator.specs.Translation.{cell_total};
+
 pub use writer::translate;
 
-// How many cells were written, with number 0; or the refusal, with no cell.
+// A sheet whose own tests pass, and whose cells are no more than a table has.
 #[derive(Clone, Copy)]
-pub struct Translation {
-    pub verdict: Verdict,
-    pub cells: u8,
+struct Accepted<'a> {
+    sheet: &'a [u8],
+    cells: u8,
+    ghost sound: { (sheet_verdict sheet.now).number ≡ 0 },
+    ghost counted: { cells ≡ cell_total sheet.now },
+    ghost few: { cells ≤ 63 },
 }
