@@ -3,7 +3,7 @@ use Rattle.std.specs.Prelude.{ℕ, ◌+◌, ◌*◌, ◌%◌}
 use Rattle.records.specs.declared.Verdict.{Verdict}
 use Rattle.engine.specs.declared.Ticked.{Ticked}
 use Rattle.detectors.specs.declared.Detected.{Detected}
-use Rattle.translator.specs.declared.Translation.{Translation}
+use Rattle.translator.specs.Answers.{Translation}
 
 -- thirty-two bits: number (8), cells (8), place (16)
 unfoldable pub packed_parts : Verdict → ℕ → ℕ

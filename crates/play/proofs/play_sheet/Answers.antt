@@ -2,7 +2,7 @@
 use Rattle.std.proofs.Common.{ℕ, ◌*◌, ◌≤◌, ◌≡◌, List, length, arith, sym, subst}
 use Rattle.std.proofs.Math.ListN.{length-take}
 use Rattle.translator.specs.Translation.{translation}
-use Rattle.translator.specs.declared.Translation.{Translation}
+use Rattle.translator.specs.Answers.{Translation}
 use Rattle.translator.proofs.VerdictLaws.{verdict_accepted, accepted_cells}
 use Rattle.play.proofs.play_sheet.Goals as goal
 
