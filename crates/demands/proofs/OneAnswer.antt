@@ -126,11 +126,11 @@ exit_number_lem exit = one_answer (exit_number exit)
 pub elapsed_in_range_lem : (timeout elapsed : ℕ) → OneAnswer (elapsed_in_range timeout elapsed)
 elapsed_in_range_lem timeout elapsed = one_answer (elapsed_in_range timeout elapsed)
 
--- engine::tick_table, engine::tick_sheet
+-- engine::tick
 pub form_tick : (form : Form) (bytes : List ℕ) (state : State) (word : ℕ) → OneAnswer (form_ticked form bytes state word)
 form_tick form bytes state word = one_answer (form_ticked form bytes state word)
 
--- engine::show_table, engine::show_sheet
+-- engine::show
 pub form_show : (form : Form) (bytes : List ℕ) (state : State) → OneAnswer (shown_at form bytes state)
 form_show form bytes state = one_answer (shown_at form bytes state)
 
@@ -150,12 +150,12 @@ bytes_verdict_lem bytes = one_answer (bytes_verdict bytes)
 pub state_start : (state : List ℕ) → OneAnswer (start_verdict state) × OneAnswer (start_written state)
 state_start state = (one_answer (start_verdict state), one_answer (start_written state))
 
--- state_calls::tick_table, state_calls::tick_sheet
+-- state_calls::tick
 pub state_tick : (form : Form) (bytes state : List ℕ) (word : ℕ)
     → let answer = ticked_on form bytes state word in OneAnswer answer × OneAnswer (state_after answer state)
 state_tick form bytes state word = let answer = ticked_on form bytes state word in (one_answer answer, one_answer (state_after answer state))
 
--- state_calls::show_table, state_calls::show_sheet
+-- state_calls::show
 pub state_show : (form : Form) (bytes state : List ℕ) → OneAnswer (shown_on form bytes state)
 state_show form bytes state = one_answer (shown_on form bytes state)
 

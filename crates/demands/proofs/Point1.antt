@@ -59,13 +59,13 @@ pins_refused settings outputs h = rw (ne_eqb (pins_verdict settings outputs).num
 abbrev tick_verdict : Form → List ℕ → State → ℕ → Verdict
 tick_verdict form bytes state word = first_refusal (state_verdict form bytes state ∷ word_verdict word ∷ [])
 
--- engine::tick_table, engine::tick_sheet: `refused_with` has the state as received, and zero outputs and step
+-- engine::tick: `refused_with` has the state as received, and zero outputs and step
 pub form_tick_refused : (form : Form) (bytes : List ℕ) (state : State) (word : ℕ) → ¬ ((tick_verdict form bytes state word).number ≡ 0)
     → form_ticked form bytes state word ≡ refused_with (tick_verdict form bytes state word) state
 unfolding form_ticked went_from answered_at
 form_tick_refused form bytes state word h = rw (ne_eqb (tick_verdict form bytes state word).number 0 h)
 
--- engine::show_table, engine::show_sheet
+-- engine::show
 pub form_show_refused : (form : Form) (bytes : List ℕ) (state : State) → ¬ ((state_verdict form bytes state).number ≡ 0)
     → shown_at form bytes state ≡ refused_with (state_verdict form bytes state) state
 unfolding shown_at answered_at
@@ -89,13 +89,13 @@ pub state_start_refused : (state : List ℕ) → ¬ ((start_verdict state).numbe
 unfolding start_written
 state_start_refused state h = rw (ne_eqb (start_verdict state).number 0 h)
 
--- state_calls::tick_table, state_calls::tick_sheet: the eight bytes stay as received
+-- state_calls::tick: the eight bytes stay as received
 pub state_tick_refused : (form : Form) (bytes state : List ℕ) (word : ℕ) → ¬ ((ticked_on form bytes state word).verdict.number ≡ 0)
     → state_after (ticked_on form bytes state word) state ≡ state
 unfolding state_after
 state_tick_refused form bytes state word h = rw (ne_eqb (ticked_on form bytes state word).verdict.number 0 h)
 
--- Their tests, and those of state_calls::show_table and state_calls::show_sheet: first the state's bytes, with the state that they hold, no outputs and step 0,
+-- Their tests, and those of state_calls::show: first the state's bytes, with the state that they hold, no outputs and step 0,
 pub tick_bytes_refused : (form : Form) (bytes state : List ℕ) (word : ℕ) → ¬ ((bytes_verdict state).number ≡ 0)
     → ticked_on form bytes state word ≡ refused_with (bytes_verdict state) (state_from state)
 unfolding ticked_on

@@ -10,7 +10,7 @@ use records::{Number, Refusal};
 use steps::step_count;
 use words::word_at;
 
-// Number 5 at the lowest step whose tag an earlier step has.
+// Number 5 at the lowest step whose tag an earlier step has: nested loops, left by a label, as the scope names them.
 pub(crate) fn repeats_verdict(sheet: &[u8]) -> Result<(), Refusal>
     ensures { verdict_of result ≡ repeats_verdict sheet.now }
 {
