@@ -1,5 +1,6 @@
 -- `tables::verdict::table_verdict` meets its contract: its number of cells is a byte. Assumes nothing.
-use mathlib.Core.Path.{sym, ◌∙◌}
+use mathlib.Core.Path.{◌≡◌, sym, ◌∙◌}
+use mathlib.Core.Bool.{true}
 use native.Mathlib.Omega.{arith}
 use lib.ListN.{length}
 use Rattle.records.proofs.ReturnLaws.{held}
@@ -10,5 +11,5 @@ use Rattle.tables.proofs.verdict.table_verdict.Goals as goal
 pub overflow_cast-cells : goal.overflow_cast-cells
 unfolding is_table
 overflow_cast-cells c =
-    let whole = held _ 1 0 (λ z. omega arith) c.in_ok-ensure.ensures in
+    let whole : c.is_table.result ≡ true = held _ 1 0 (λ z. omega arith) c.in_ok-ensure.ensures in
     omega (arith, ((whole_test 12 (length c.args.table.now)).0 (sym c.is_table.ensures ∙ whole)).most)
