@@ -9,26 +9,31 @@
 
 use console::print;
 use machine::Node;
+use records::Numbered;
 use std::io;
 use std::io::Write;
 use text::Line;
 
 fn main(rt: HostRuntime) -> io::Result<()> {
-    // One byte more than the longest sheet, so that a longer input is refused and not cut.
+    // One byte more than the longest sheet, so that a longer input is refused and not cut. Of a read that fails no byte
+    // counts.
     let mut sheet = [0u8; 1009];
-    let received = console::receive(&mut rt.stdin(), &mut sheet);
+    let count = console::receive(&mut rt.stdin(), &mut sheet).unwrap_or(0);
     let mut table = [0u8; 756];
-    let translation = translator::translate(&sheet[..received.count], &mut table);
-    let verdict = translation.verdict;
-    if verdict.number != 0 {
-        print(
-            &mut rt.stdout(),
-            console::refusal(b"", verdict.number, verdict.place),
-        )?;
-        return Ok(());
+    let output = &mut rt.stdout();
+    match translator::translate(&sheet[..count], &mut table) {
+        Ok(cells) => {
+            print(output, heading(cells))?;
+            print_cells(output, &table, cells)
+        }
+        Err(refusal) => {
+            print(
+                output,
+                console::refusal(b"", refusal.kind.number(), refusal.place),
+            )?;
+            Ok(())
+        }
     }
-    print(&mut rt.stdout(), heading(translation.cells))?;
-    print_cells(&mut rt.stdout(), &table, translation.cells)
 }
 
 fn heading(cells: u8) -> Line {
