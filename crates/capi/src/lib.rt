@@ -102,5 +102,5 @@ fn show<F: Form>(bytes: &[u8], state: &[u8]) -> u64
 pub fn wrackbasket_detect(image: &[u8], recording: &[u8]) -> u64
     ensures { result ≡ packed_words (recorded image.now recording.now) }
 {
-    packed_words(Detected::of(recordings::recorded(image, recording)))
+    packed_words(Detected::from(recordings::recorded(image, recording)))
 }

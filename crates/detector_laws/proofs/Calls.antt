@@ -14,7 +14,8 @@ use Rattle.writing.specs.Writing.{settings_verdict}
 use Rattle.image.specs.declared.Settings.{Settings}
 use Rattle.detectors.specs.Bank.{faults_of, warnings_of, bank_verdict, start_bank}
 use Rattle.channels.specs.Frame.{frame_at}
-use Rattle.detectors.specs.Tick.{bank_at, Words, words_at, words_over, trace, levels_verdict, frames_verdict, detected_as, detected_over, ticked, engine_ticked}
+use Rattle.detectors.specs.Tick.{bank_at, words_at, words_over, trace, levels_verdict, frames_verdict, detected_as, detected_over, ticked, engine_ticked}
+use Rattle.detectors.specs.declared.Words.{Words}
 use Rattle.detectors.specs.declared.Bank.{Bank}
 use Rattle.detectors.specs.declared.Detected.{Detected}
 use Rattle.records.proofs.VerdictLaws.{number_of}

@@ -15,7 +15,8 @@ use Rattle.image.specs.declared.Settings.{Settings}
 use Rattle.channels.specs.Channel.{channel_after, fault_bit, warning_bit}
 use Rattle.channels.specs.Frame.{frame_at, measured, level_at, sample_at}
 use Rattle.detectors.specs.Bank.{channel_at, faults_of, warnings_of, start_bank}
-use Rattle.detectors.specs.Tick.{bank_at, Words, words_at}
+use Rattle.detectors.specs.Tick.{bank_at, words_at}
+use Rattle.detectors.specs.declared.Words.{Words}
 use Rattle.detector_laws.proofs.BankRange.{channel_after_lem}
 
 -- ---- what the two runs must agree on: over n frames, "the group, the own sample and level, and with function 2 the sister's sample"

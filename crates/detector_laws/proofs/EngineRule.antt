@@ -11,7 +11,8 @@ use Rattle.records.proofs.ListLaws.{each_at, each_length, each_ext, each_from}
 use Rattle.image.specs.declared.Settings.{Settings}
 use Rattle.detectors.specs.Bank.{channel_at, bank_after, faults_of, warnings_of, start_bank}
 use Rattle.channels.specs.Frame.{frame_at}
-use Rattle.detectors.specs.Tick.{bank_at, Words, no_words, words_at, words_over, trace}
+use Rattle.detectors.specs.Tick.{bank_at, no_words, words_at, words_over, trace}
+use Rattle.detectors.specs.declared.Words.{Words}
 use Rattle.detectors.specs.declared.Bank.{Bank}
 use Rattle.detector_laws.proofs.ChannelRule.{Agree, SameBits, same_channel, same_bits}
 

@@ -1,2 +1,3 @@
+pub mod ChunkLaws
 pub mod BankLaws
 pub mod TickLaws

@@ -1,20 +1,18 @@
 -- Laws of ticks over a run of frames. Assumes nothing.
-use Prim.Native.Nat.{ℕ, zero, suc, ◌+◌, ◌-◌, ◌*◌, ◌≤◌, ◌<◌}
-use mathlib.Core.Path.{◌≡◌, refl, ap, ap₂, sym, ◌∙◌}
+use Prim.Native.Nat.{ℕ, zero, suc, ◌+◌, ◌-◌, ◌≤◌, ◌<◌}
+use mathlib.Core.Path.{◌≡◌, refl, ap, ap₂, ◌∙◌}
 use mathlib.Core.Bool.{Bool}
 use mathlib.Core.List.{List, ◌++◌}
 use native.Mathlib.Nat.{zero-add, not-suc-le-zero}
 use native.Mathlib.Omega.{arith}
-use borrow.Author.Tests.{ne_eqb}
 use lib.Dec.{ltb}
 use lib.ListN.{length, get_or, drop}
-use lib.Seq.{get_or-take, get_or-drop}
 use Rattle.records.specs.Lists.{each}
-use Rattle.records.specs.Verdicts.{accepted}
+use Rattle.records.specs.Numbers.{bad_word}
+use Rattle.records.specs.Verdicts.{refused_unless}
 use Rattle.records.specs.declared.Verdict.{Verdict}
 use Rattle.records.specs.Words.{word_of}
 use Rattle.records.proofs.ListLaws.{each_at, each_length, each_ext, fill_all}
-use Rattle.records.proofs.VerdictLaws.{first_accepted}
 use Rattle.records.proofs.WordLaws.{word_of_ext}
 use Rattle.image.specs.Reading.{group_at}
 use Rattle.image.specs.declared.Group.{Group}
@@ -22,20 +20,23 @@ use Rattle.image.specs.declared.Settings.{Settings}
 use Rattle.channels.specs.Channel.{channel_after, fault_bit, warning_bit, start_channel}
 use Rattle.channels.specs.Frame.{frame_at, sample_at}
 use Rattle.detectors.specs.Bank.{channel_at, next_channel, bank_after, faults_of, warnings_of}
-use Rattle.detectors.specs.Tick.{bank_at, words_at, trace, levels_in_range, no_words, words_over, advanced_over, frames_verdict, refused_on, detected, detected_over}
+use Rattle.detectors.specs.Tick.{bank_at, words_at, trace, levels_in_range, no_words, words_over}
 use Rattle.channels.specs.Run.{channel_over, ran_over}
 use Rattle.detectors.specs.declared.Bank.{Bank}
-use Rattle.detectors.specs.declared.advancing.Advanced.{Advanced}
-use Rattle.detectors.specs.declared.Detected.{Detected}
+use Rattle.detectors.specs.declared.Words.{Words}
 use Rattle.channels.specs.declared.Channel.{Channel}
 use Rattle.channels.specs.declared.Ran.{Ran}
 
--- ---- a frame
--- the test of its level byte, as the code reads it
-pub levels_read : (frames : List ℕ) (i : ℕ) → levels_in_range frames i ≡ ltb (get_or frames (11 * i + 10) 0) 32
-unfolding levels_in_range frame_at
-levels_read frames i =
-    ap (λ (levels : ℕ). ltb levels 32) (get_or-take 11 (drop (11 * i) frames) 10 0 (omega arith) ∙ get_or-drop (11 * i) frames 10 0)
+-- ---- the level bytes
+-- the test of frame i
+abbrev pub levels_test : List ℕ → ℕ → Verdict
+levels_test frames i = refused_unless (levels_in_range frames i) bad_word 0
+
+-- the same as the code makes it
+pub levels_read : (frames frame : List ℕ) (k : ℕ) {levels : ℕ} → frame ≡ frame_at frames k → levels ≡ get_or frame 10 0
+    → refused_unless (ltb levels 32) bad_word 0 ≡ levels_test frames k
+unfolding levels_in_range
+levels_read frames frame k is read = ap (λ (n : ℕ). refused_unless (ltb n 32) bad_word 0) (read ∙ ap (λ (l : List ℕ). get_or l 10 0) is)
 
 -- ---- the bank: each channel goes by itself
 module _ (settings : Settings) (frames : List ℕ) (bank : Bank) where
@@ -81,27 +82,14 @@ module _ (settings : Settings) (frames : List ℕ) (bank : Bank) where
   abbrev pub ran_at : ℕ → ℕ → Ran
   ran_at n k = ran_over (group_at settings k) frames k (channel_at bank k) n
 
-  pub ran_all : (n k : ℕ) (after : Bank) (faults warnings : ℕ)
-      → 1 ≤ n
-      → k ≡ 10
-      → length bank.channels ≡ 10
-      → after.channels ≡ each (λ j. (ran_at n j).channel) 0 k ++ drop k bank.channels
-      → faults ≡ word_of (λ j. (ran_at n j).fault) k
-      → warnings ≡ word_of (λ j. (ran_at n j).warning) k
-      → ◌≡◌ {A = Advanced} (record { bank = after; faults = faults; warnings = warnings }) (advanced_over n settings bank frames)
-  unfolding advanced_over ran_over words_at faults_of warnings_of
-  ran_all n k after faults warnings h all ten channels fault warning =
-      rw (words_last n h, word_alone fault_bit n h, word_alone warning_bit n h, bank_of_alone n h, channels, fault, warning, all, fill_all (λ j. alone j n) bank.channels 10 ten)
+  module _ (n k : ℕ) (some : 1 ≤ n) (all : k ≡ 10) where
+    pub bank_ran : (after : Bank) → length bank.channels ≡ 10 → after.channels ≡ each (λ j. (ran_at n j).channel) 0 k ++ drop k bank.channels
+        → after ≡ bank_at settings frames bank n
+    unfolding ran_over
+    bank_ran after ten channels = rw (bank_of_alone n some, channels, all, fill_all (λ j. alone j n) bank.channels 10 ten)
 
--- ---- the answers, from the verdict that the code holds
-module _ (n : ℕ) (settings : Settings) (bank : Bank) (frames : List ℕ) (v : Verdict) (is : v ≡ frames_verdict n settings bank frames) where
-  pub detected_refused : (v.number ≡ 0 → ⊥) → refused_on v bank ≡ detected_over n settings bank frames
-  unfolding detected_over detected
-  detected_refused h = rw (← is, ne_eqb v.number 0 h)
-
-  pub detected_accepted : (a : Advanced) → v.number ≡ 0 → a ≡ advanced_over n settings bank frames
-      → ◌≡◌ {A = Detected} (record { verdict = v; bank = a.bank; faults = a.faults; warnings = a.warnings }) (detected_over n settings bank frames)
-  unfolding detected_over detected advanced_over frames_verdict
-  detected_accepted a h moved =
-      let passed : frames_verdict n settings bank frames ≡ accepted = first_accepted _ (sym (ap (λ (w : Verdict). w.number) is) ∙ h) in
-      rw (moved, is, passed)
+    pub words_ran : (words : Words) → words.faults ≡ word_of (λ j. (ran_at n j).fault) k → words.warnings ≡ word_of (λ j. (ran_at n j).warning) k
+        → words ≡ words_over (trace settings frames bank n)
+    unfolding ran_over words_at faults_of warnings_of
+    words_ran words fault warning =
+        rw (words_last n some, word_alone fault_bit n some, word_alone warning_bit n some, fault, warning, all)

@@ -1,16 +1,20 @@
 -- A tick on one frame, and an engine tick on twenty. Assumes nothing.
-use Rattle.std.specs.Prelude.{ℕ, zero, suc, ◌-◌, ◌*◌, Bool, cond, List, [], ◌∷◌, ltb, eqb, length, get_or}
+use Rattle.std.specs.Prelude.{ℕ, zero, suc, ◌-◌, ◌*◌, Bool, cond, Result, Ok, Err, List, [], ◌∷◌, ltb, eqb, length, get_or}
 use Rattle.records.specs.Lists.{each}
 use Rattle.records.specs.Numbers.{wrong_length, bad_word}
 use Rattle.records.specs.Verdicts.{accepted, refused_unless, first_refusal}
+use Rattle.records.specs.Answers.{verdict_of}
+use Rattle.records.specs.declared.Number.{Number}
+use Rattle.records.specs.declared.Refusal.{Refusal}
 use Rattle.records.specs.declared.Verdict.{Verdict}
 use Rattle.writing.specs.Writing.{settings_verdict}
 use Rattle.image.specs.declared.Settings.{Settings}
 use Rattle.channels.specs.Frame.{frame_at}
 use Rattle.detectors.specs.Bank.{bank_after, faults_of, warnings_of, bank_verdict}
 use Rattle.detectors.specs.declared.Bank.{Bank}
-use Rattle.detectors.specs.declared.advancing.Advanced.{Advanced}
 use Rattle.detectors.specs.declared.Detected.{Detected}
+use Rattle.detectors.specs.declared.Detection.{Detection}
+use Rattle.detectors.specs.declared.Words.{Words}
 
 -- ---- frames one after the other
 
@@ -18,11 +22,6 @@ use Rattle.detectors.specs.declared.Detected.{Detected}
 unfoldable pub bank_at : Settings → List ℕ → Bank → ℕ → Bank
 bank_at settings frames bank zero = bank
 bank_at settings frames bank (suc n) = bank_after settings (frame_at frames n) (bank_at settings frames bank n)
-
--- the words of one tick
-pub record Words : Type 0 where
-  pub faults : ℕ
-  pub warnings : ℕ
 
 unfoldable pub words_at : Settings → List ℕ → Bank → ℕ → Words
 words_at settings frames bank i =
@@ -69,6 +68,14 @@ detected_as bank words = record { verdict = accepted; bank = bank; faults = word
 abbrev pub refused_on : Verdict → Bank → Detected
 refused_on verdict bank = record { verdict = verdict; bank = bank; faults = 0; warnings = 0 }
 
+-- an answer field by field
+abbrev pub detected_of : Bank → Result Words (Refusal Number) → Detected
+detected_of bank (Ok words) = detected_as bank words
+detected_of bank (Err refusal) = refused_on (verdict_of {A = Words} (Err refusal)) bank
+
+abbrev pub as_detected : Detection → Detected
+as_detected detection = detected_of detection.bank detection.words
+
 -- the verdict decides between the two
 unfoldable pub detected : Verdict → Bank → Bank → Words → Detected
 detected verdict received bank words = cond (eqb verdict.number 0) (detected_as bank words) (refused_on verdict received)
@@ -89,12 +96,3 @@ ticked = detected_over 1
 -- "An engine tick is twenty detector ticks; its call takes all twenty frames, 220 bytes, and makes every test first"
 unfoldable pub engine_ticked : Settings → Bank → List ℕ → Detected
 engine_ticked = detected_over 20
-
--- the bank after n frames with the words over them
-unfoldable pub advanced_over : ℕ → Settings → Bank → List ℕ → Advanced
-advanced_over n settings bank frames =
-    record {
-      bank = bank_at settings frames bank n;
-      faults = (words_over (trace settings frames bank n)).faults;
-      warnings = (words_over (trace settings frames bank n)).warnings;
-    }

@@ -1,102 +1,72 @@
 // The bank's start, its ranges, and its ten channels over a run of frames.
-ghost use Rattle.std.specs.Prelude.{◌<◌, ◌≤◌, ◌≡◌};
-ghost use Rattle.image.specs.Reading.{group_at};
-ghost use Rattle.detectors.specs.Bank.{channel_at, start_bank, bank_verdict, left_in_range};
-ghost use Rattle.detectors.specs.Tick.{advanced_over};
-ghost use Rattle.detectors.specs.Bank.{quiet, in_range};
+ghost use Rattle.std.specs.Prelude.{◌≤◌, ◌≡◌};
+ghost use Rattle.records.specs.Answers.{verdict_of};
+ghost use Rattle.detectors.specs.Bank.{start_bank, bank_verdict, left_in_range, quiet, in_range};
+ghost use Rattle.detectors.specs.Tick.{bank_at, trace, words_over};
 
-use crate::Bank;
-use channels::{Channel, Filter};
+use crate::{Bank, Words};
+use channels::Channel;
 use image::{Group, Logic, Settings};
-use records::{UNREACHABLE, Verdict, accepted, refused};
+use records::{Number, Refusal, ensure};
 use words::bit;
 
-// The bank after a run of frames, and the words of the last.
-#[derive(Clone, Copy)]
-pub(crate) struct Advanced {
-    pub bank: Bank,
-    pub faults: u16,
-    pub warnings: u16,
-}
-
 // The bank that every run starts from: all state false and zero.
+#[tactic(auto, unfolding(crate::specs::Bank::start_bank, records::specs::Lists::each))]
 pub fn start() -> Bank
     ensures { result ≡ start_bank }
 {
-    let filter = Filter {
-        filtered: false,
-        count: 0,
-    };
-    let channel = Channel {
-        over: false,
-        under: false,
-        analog: filter,
-        logic: filter,
-        left: 0,
-    };
-    let channels = [channel; 10];
-    Bank { channels }
+    Bank {
+        channels: [Channel::default(); 10],
+    }
 }
 
-// Each channel over n frames by itself: no channel reads another's state.
-pub(crate) fn advance(settings: Settings, bank: Bank, frames: &[u8], n: usize) -> Advanced
-    requires { 1 ≤ n }
-    ensures { result ≡ advanced_over n settings bank frames.now }
+// Each channel over N frames by itself: no channel reads another's state. The words are those of the last frame.
+pub(crate) fn advance<const N: usize>(
+    settings: Settings,
+    bank: Bank,
+    frames: &[u8],
+) -> (Bank, Words)
+    requires { 1 ≤ N }
+    ensures bank { result.0 ≡ bank_at settings frames.now bank N }
+    ensures words { result.1 ≡ words_over (trace settings frames.now bank N) }
 {
     let mut after = bank;
-    let mut faults = 0;
-    let mut warnings = 0;
-    for k in 0..10 {
-        let channel = channel_at(bank, k);
-        let ran = channel.run(group_at(settings, k), frames, n, k);
-        let next = ran.channel;
-        after.channels[k] = next;
-        faults += bit(ran.fault, k);
-        warnings += bit(ran.warning, k);
+    let mut words = Words::default();
+    for (k, channel) in bank.channels.iter().enumerate() {
+        let ran = channel.run(settings.groups[k], frames, N, k);
+        after.channels[k] = ran.channel;
+        words.faults += bit(ran.fault, k);
+        words.warnings += bit(ran.warning, k);
     }
-    Advanced {
-        bank: after,
-        faults,
-        warnings,
-    }
+    (after, words)
 }
 
 // Number 8 at the lowest channel whose state the rules cannot reach by range.
-pub(crate) fn bank_verdict(settings: Settings, bank: Bank) -> Verdict
-    ensures { result ≡ bank_verdict settings bank }
+#[tactic(auto, using(records::proofs::ReturnLaws::loops), unfolding(crate::specs::Bank::bank_verdict))]
+pub(crate) fn bank_verdict(settings: Settings, bank: Bank) -> Result<(), Refusal>
+    ensures { verdict_of result ≡ bank_verdict settings bank }
 {
-    for k in 0..10 {
-        if !in_range(k, group_at(settings, k), channel_at(bank, k)) {
-            return refused(UNREACHABLE, k);
-        }
+    for (k, channel) in bank.channels.iter().enumerate() {
+        ensure(
+            in_range(k, settings.groups[k], *channel),
+            Number::Unreachable,
+            k,
+        )?;
     }
-    accepted()
+    Ok(())
 }
 
-fn group_at(settings: Settings, k: usize) -> Group
-    requires { k < 10 }
-    ensures { result ≡ group_at settings k }
-{
-    settings.groups[k]
-}
-
-fn channel_at(bank: Bank, k: usize) -> Channel
-    requires { k < 10 }
-    ensures { result ≡ channel_at bank k }
-{
-    bank.channels[k]
-}
-
+#[tactic(auto, unfolding(crate::specs::Bank::in_range, channels::specs::Channel::ticks))]
 fn in_range(k: usize, group: Group, channel: Channel) -> bool
     ensures { result ≡ in_range k group channel }
 {
-    let logic = group.logic;
-    (channel.analog.count <= group.delay / 5)
-        & (channel.logic.count <= logic.delay / 5)
-        & left_in_range(logic, channel.left)
-        & ((k >= 5) | quiet(channel))
+    channel.analog.count <= group.delay / 5
+        && channel.logic.count <= group.logic.delay / 5
+        && left_in_range(group.logic, channel.left)
+        && (k >= 5 || quiet(channel))
 }
 
+#[tactic(auto, unfolding(crate::specs::Bank::left_in_range, channels::specs::Channel::ticks))]
 fn left_in_range(logic: Logic, left: u16) -> bool
     ensures { result ≡ left_in_range logic left }
 {
@@ -107,8 +77,9 @@ fn left_in_range(logic: Logic, left: u16) -> bool
 }
 
 // Nothing of the logic part has moved.
+#[tactic(auto, unfolding(crate::specs::Bank::quiet))]
 fn quiet(channel: Channel) -> bool
     ensures { result ≡ quiet channel }
 {
-    !channel.logic.filtered & (channel.logic.count == 0) & (channel.left == 0)
+    !channel.logic.filtered && channel.logic.count == 0 && channel.left == 0
 }

@@ -1,72 +1,71 @@
 // The calls on frames: every test first, then the ticks.
-ghost use Rattle.std.specs.Prelude.{◌≤◌, ◌*◌, ◌≡◌, length};
-ghost use Rattle.detectors.specs.Tick.{frames_verdict, levels_verdict, detected_over, ticked, engine_ticked};
+ghost use Rattle.std.specs.Prelude.{◌≤◌, ◌/◌, ◌≡◌, length};
+ghost use Rattle.records.specs.Answers.{verdict_of};
+ghost use Rattle.detectors.specs.Tick.{frames_verdict, levels_verdict, detected_over, ticked, engine_ticked, as_detected};
 
-use crate::{Bank, Detected, advancing};
+use crate::{Bank, Detection, advancing};
 use image::Settings;
-use records::{BAD_WORD, Verdict, WRONG_LENGTH, accepted, refused};
+use records::{Number, Refusal, ensure};
+use words::byte_at;
 
 // One detector tick, 5 µs, on one frame of eleven bytes.
-pub fn tick(settings: Settings, bank: Bank, frame: &[u8]) -> Detected
-    ensures { result ≡ ticked settings bank frame.now }
+#[tactic(auto, unfolding(crate::specs::Tick::ticked))]
+pub fn tick(settings: Settings, bank: Bank, frame: &[u8]) -> Detection
+    ensures { as_detected result ≡ ticked settings bank frame.now }
 {
-    detect(settings, bank, frame, 1)
+    detect::<1>(settings, bank, frame)
 }
 
 // One engine tick: twenty frames, 220 bytes. Its words are those of the last of the twenty.
-pub fn engine_tick(settings: Settings, bank: Bank, frames: &[u8]) -> Detected
-    ensures { result ≡ engine_ticked settings bank frames.now }
+#[tactic(auto, unfolding(crate::specs::Tick::engine_ticked))]
+pub fn engine_tick(settings: Settings, bank: Bank, frames: &[u8]) -> Detection
+    ensures { as_detected result ≡ engine_ticked settings bank frames.now }
 {
-    detect(settings, bank, frames, 20)
+    detect::<20>(settings, bank, frames)
 }
 
-fn detect(settings: Settings, bank: Bank, frames: &[u8], n: usize) -> Detected
-    requires le_n { 1 ≤ n }
-    requires n_bound { n ≤ 20 }
-    ensures { result ≡ detected_over n settings bank frames.now }
+#[tactic(auto, unfolding(crate::specs::Tick::detected_over, crate::specs::Tick::detected))]
+fn detect<const N: usize>(settings: Settings, bank: Bank, frames: &[u8]) -> Detection
+    requires { 1 ≤ N }
+    ensures { as_detected result ≡ detected_over N settings bank frames.now }
 {
-    let verdict = frames_verdict(settings, bank, frames, n);
-    if verdict.number != 0 {
-        return Detected {
-            verdict,
+    match frames_verdict::<N>(settings, bank, frames) {
+        Ok(()) => {
+            let (bank, words) = advancing::advance::<N>(settings, bank, frames);
+            Detection {
+                bank,
+                words: Ok(words),
+            }
+        }
+        Err(refusal) => Detection {
             bank,
-            faults: 0,
-            warnings: 0,
-        };
-    }
-    let advanced = advancing::advance(settings, bank, frames, n);
-    let bank = advanced.bank;
-    Detected {
-        verdict,
-        bank,
-        faults: advanced.faults,
-        warnings: advanced.warnings,
+            words: Err(refusal),
+        },
     }
 }
 
 // The tests, in the order 1, 4, 8, 9.
-fn frames_verdict(settings: Settings, bank: Bank, frames: &[u8], n: usize) -> Verdict
-    requires { n ≤ 20 }
-    ensures { result ≡ frames_verdict n settings bank frames.now }
+#[tactic(auto, using(records::proofs::ReturnLaws::tests), unfolding(crate::specs::Tick::frames_verdict))]
+fn frames_verdict<const N: usize>(
+    settings: Settings,
+    bank: Bank,
+    frames: &[u8],
+) -> Result<(), Refusal>
+    ensures { verdict_of result ≡ frames_verdict N settings bank frames.now }
 {
-    if frames.len() != 11 * n {
-        return refused(WRONG_LENGTH, 0);
-    }
-    let means = writing::settings_verdict(settings);
-    let state = advancing::bank_verdict(settings, bank);
-    let levels = levels_verdict(frames, n);
-    means.then(state).then(levels)
+    let whole = frames.len() % 11 == 0 && frames.len() / 11 == N;
+    ensure(whole, Number::WrongLength, 0)?;
+    writing::settings_verdict(settings)?;
+    advancing::bank_verdict(settings, bank)?;
+    levels_verdict(frames)
 }
 
-fn levels_verdict(frames: &[u8], n: usize) -> Verdict
-    requires n_bound { n ≤ 20 }
-    requires frames_len { length frames.now ≡ 11 * n }
-    ensures { result ≡ levels_verdict n frames.now }
+#[tactic(auto, using(records::proofs::ReturnLaws::loops), unfolding(crate::specs::Tick::levels_verdict))]
+fn levels_verdict(frames: &[u8]) -> Result<(), Refusal>
+    ensures { verdict_of result ≡ levels_verdict (length frames.now / 11) frames.now }
 {
-    for i in 0..n {
-        if frames[11 * i + 10] >= 32 {
-            return refused(BAD_WORD, 0);
-        }
+    for frame in frames.chunks_exact(11) {
+        ensure(byte_at(frame, 10) < 32, Number::BadWord, 0)?;
     }
-    accepted()
+    Ok(())
 }

@@ -79,7 +79,7 @@ fn detecting(given: &[u8]) -> Option<(Settings, Bank, &[u8])> {
 
 // A refusal has zero words.
 fn is_detection(detection: Detection, expected: &mut Fields<'_>) -> bool {
-    let detected = Detected::of(detection);
+    let detected = Detected::from(detection);
     expected.has_verdict(detection.words)
         & is_bank(detected.bank, expected)
         & (detected.faults == expected.word())

@@ -91,7 +91,7 @@ pub(crate) fn try_tick_order(output: &mut impl Write) -> io::Result<()> {
         let frame = [1, 0, 0, 0, 0, 0, 0, 0, 0, 0, tried.levels];
         let (settings, bank) = (driving(tried.hysteresis), counted(tried.count));
         let detection = detectors::tick(settings, bank, first(&frame, tried.length));
-        let detected = Detected::of(detection);
+        let detected = Detected::from(detection);
         let items = [detected.faults, detected.warnings];
         print_answer(output, tried.name, detected.verdict, &items)?;
     }

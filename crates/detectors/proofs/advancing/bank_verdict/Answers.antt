@@ -1,28 +1,19 @@
 -- `detectors::advancing::bank_verdict` meets its contract. The loop's invariant: the channels that are left give the whole answer.
 -- Assumes nothing.
-use mathlib.Core.Path.{refl, sym, ◌∙◌}
-use native.Mathlib.Omega.{arith}
-use Rattle.records.specs.Numbers.{unreachable}
-use Rattle.records.proofs.VerdictLaws.{searched_none, searched_end, flag_pass, flag_hit}
-use Rattle.detectors.specs.Bank.{bank_verdict}
-use Rattle.detectors.proofs.BankLaws.{channel_flag}
+use borrow.Author.Rules.{rules}
+use Rattle.records.proofs.ReturnLaws.{loops}
+use Rattle.image.proofs.SettingsLaws.{ten_groups}
+use Rattle.detectors.proofs.BankLaws.{ten_channels, tested}
 use Rattle.detectors.proofs.advancing.bank_verdict.Goals as goal
 
-pub loop-k-init : goal.loop-k-init
-unfolding bank_verdict
-loop-k-init c = searched_none refl refl
-
-pub returns-then-not-in_range : goal.returns-then-not-in_range
-returns-then-not-in_range c =
+pub returns-in_err-ensure : goal.returns-in_err-ensure
+returns-in_err-ensure c =
     let a = c.args in
-    c.refused.ensures
-    ∙ flag_hit (channel_flag a.settings a.bank) unreachable (λ j. j) c.loop-k.invariant (omega arith) (λ z. omega arith)
-    (sym (rw (c.in_range.ensures, c.channel_at.ensures, c.group_at.ensures)) ∙ c.if-not-in_range.true)
+    let here = tested a.settings a.bank _ _ _ (ten_groups a.settings _ c.well_formed.0) (ten_channels a.bank _ c.well_formed.1.0) c.loop-k-test.true c.in_range.ensures in
+    search (rules, loops)
 
 pub loop-k-preserved : goal.loop-k-preserved
 loop-k-preserved c =
     let a = c.args in
-    flag_pass (channel_flag a.settings a.bank) unreachable (λ j. j) c.loop-k.invariant (omega arith) (sym (rw (c.in_range.ensures, c.channel_at.ensures, c.group_at.ensures)) ∙ c.if-not-in_range.false)
-
-pub returns : goal.returns
-returns c = c.accepted.ensures ∙ searched_end c.loop-k.invariant (omega arith)
+    let here = tested a.settings a.bank _ _ _ (ten_groups a.settings _ c.well_formed.0) (ten_channels a.bank _ c.well_formed.1.0) c.loop-k-test.true c.in_range.ensures in
+    search (rules, loops)

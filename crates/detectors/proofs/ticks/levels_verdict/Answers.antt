@@ -1,27 +1,57 @@
 -- `detectors::ticks::levels_verdict` meets its contract. The loop's invariant: the frames that are left give the whole answer.
 -- Assumes nothing.
+use Prim.Native.Nat.{◌<◌}
 use mathlib.Core.Path.{refl, ◌∙◌}
+use lib.ListN.{length, length-append}
+use borrow.Author.Rules.{rules}
 use native.Mathlib.Omega.{arith}
-use borrow.Author.Tests.{lt-ltb, le-ltb}
-use Rattle.records.specs.Numbers.{bad_word}
-use Rattle.records.proofs.VerdictLaws.{searched_none, searched_end, flag_pass, flag_hit}
-use Rattle.detectors.specs.Tick.{levels_in_range, levels_verdict}
+use Rattle.records.proofs.ReturnLaws.{loops, loop_starts, loop_done}
+use Rattle.channels.specs.Frame.{frame_at}
+use Rattle.detectors.specs.Tick.{levels_verdict}
+use Rattle.detectors.proofs.ChunkLaws.{none_left, one_left, chunk_is, others_left}
 use Rattle.detectors.proofs.TickLaws.{levels_read}
 use Rattle.detectors.proofs.ticks.levels_verdict.Goals as goal
 
-pub loop-i-init : goal.loop-i-init
+pub loop-frame-init : goal.loop-frame-init
 unfolding levels_verdict
-loop-i-init c = searched_none refl refl
+loop-frame-init c =
+    let items = c.chunks_exact-frame-items.ensures in
+    rw (c.into_iter-frame-iterator.ensures.into_iter_gives) (record { size = items.size; rest = items.rest; left = loop_starts refl })
 
-pub returns-then-frames-i-ge32 : goal.returns-then-frames-i-ge32
-returns-then-frames-i-ge32 c =
-    let l = c.loop-i in
-    c.refused.ensures ∙ flag_hit (levels_in_range _) bad_word (λ j. 0) l.invariant (omega arith) (λ z. omega arith) (levels_read _ l.i ∙ le-ltb _ _ c.if-frames-i-ge32.true)
+pub returns-in_err-ensure : goal.returns-in_err-ensure
+unfolding frame_at
+returns-in_err-ensure c =
+    let so = c.loop-frame.invariant in
+    let next = c.in-Some.ensures.steps in
+    let frames = c.args.frames.now in
+    let frame = c.in-Some.frame.now in
+    let others = c.next.new.self.rest.now in
+    let k = length c.loop-frame.yielded in
+    let wide = next.1.1 ∙ so.size in
+    let below = one_left 11 k frames so.rest frame others next.1.0 wide (omega arith) in
+    let here = levels_read frames frame k (chunk_is 11 k frames so.rest frame others next.1.0 wide) c.byte_at.ensures in
+    search (rules, loops)
 
-pub loop-i-preserved : goal.loop-i-preserved
-loop-i-preserved c =
-    let l = c.loop-i in
-    flag_pass (levels_in_range _) bad_word (λ j. 0) l.invariant (omega arith) (levels_read _ l.i ∙ lt-ltb _ _ c.if-frames-i-ge32.false)
+pub loop-frame-preserved : goal.loop-frame-preserved
+unfolding frame_at
+loop-frame-preserved c =
+    let so = c.loop-frame.invariant in
+    let next = c.in-Some.ensures.steps in
+    let frames = c.args.frames.now in
+    let frame = c.in-Some.frame.now in
+    let others = c.next.new.self.rest.now in
+    let k = length c.loop-frame.yielded in
+    let wide = next.1.1 ∙ so.size in
+    let below = one_left 11 k frames so.rest frame others next.1.0 wide (omega arith) in
+    let here = levels_read frames frame k (chunk_is 11 k frames so.rest frame others next.1.0 wide) c.byte_at.ensures in
+    rw length-append (record {
+      size = next.0 ∙ so.size;
+      rest = others_left 11 k frames so.rest frame others next.1.0 wide;
+      left = search (rules, loops);
+    })
 
 pub returns : goal.returns
-returns c = c.accepted.ensures ∙ searched_end c.loop-i.invariant (omega arith)
+returns c =
+    let so = c.loop-frame.invariant in
+    let short : length c.loop-frame.frame-iterator.rest.now < 11 = omega (arith, c.in-None.ensures.steps.1, so.size) in
+    loop_done so.left (none_left 11 (length c.loop-frame.yielded) c.args.frames.now so.rest short)
