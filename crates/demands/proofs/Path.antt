@@ -16,7 +16,7 @@ use Rattle.detectors.specs.Tick.{engine_ticked}
 use Rattle.detectors.specs.declared.Bank.{Bank}
 use Rattle.detectors.specs.declared.Detected.{Detected}
 use Rattle.pins.specs.Pins.{driven}
-use Rattle.pins.specs.declared.Driven.{Driven}
+use Rattle.pins.specs.Answers.{Driven}
 use Rattle.engine.specs.Engine.{sheet_form, table_form}
 use Rattle.engine.specs.Runs.{sheet_run, table_run}
 use Rattle.engine.specs.declared.Ticked.{Ticked}

@@ -10,7 +10,7 @@ use Rattle.image.specs.Answers.{Reading}
 use Rattle.image.specs.declared.Settings.{Settings}
 use Rattle.writing.specs.Writing.{settings_verdict}
 use Rattle.pins.specs.Pins.{pins_verdict, driven}
-use Rattle.pins.specs.declared.Driven.{Driven}
+use Rattle.pins.specs.Answers.{Driven}
 use Rattle.engine.specs.Engine.{sheet_form}
 use Rattle.engine.specs.Runs.{sheet_run, table_run}
 use Rattle.engine.specs.declared.Ticked.{Ticked}

@@ -2,45 +2,30 @@
 #![tactic(auto)]
 
 ghost use Rattle.std.specs.Prelude.{◌≡◌};
-ghost use Rattle.pins.specs.Pins.{driven, pins_of};
-ghost use Rattle.pins.specs.Pins.{drive};
+ghost use Rattle.pins.specs.Pins.{drive, pins_of, driven, as_driven};
 
 use bit_fields::word_bit;
 use image::{Settings, Source};
-use records::{BAD_WORD, Verdict};
+use records::{Number, Refusal, ensure};
 use words::bit;
 
-// The word of pins, with number 0; or the refusal, with no pin.
-#[derive(Clone, Copy)]
-pub struct Driven {
-    pub verdict: Verdict,
-    pub pins: u16,
-}
-
 // The pins for a word of outputs below 1024. The settings are tested first.
-pub fn pins(settings: Settings, outputs: u16) -> Driven
-    ensures { result ≡ driven settings outputs }
+#[tactic(auto, using(records::proofs::ReturnLaws::tests), unfolding(crate::specs::Pins::driven, crate::specs::Pins::pins_verdict))]
+pub fn pins(settings: Settings, outputs: u16) -> Result<u16, Refusal>
+    ensures { as_driven result ≡ driven settings outputs }
 {
-    let means = writing::settings_verdict(settings);
-    let verdict = means.unless(outputs < 1024, BAD_WORD, 0);
-    if verdict.number != 0 {
-        return Driven { verdict, pins: 0 };
-    }
-    Driven {
-        verdict,
-        pins: drive_all(settings, outputs),
-    }
+    writing::settings_verdict(settings)?;
+    ensure(outputs < 1024, Number::BadWord, 0)?;
+    Ok(drive_all(settings, outputs))
 }
 
 fn drive_all(settings: Settings, outputs: u16) -> u16
     ensures { result ≡ pins_of settings outputs }
 {
     let mut word = 0;
-    for k in 0..10 {
-        let group = settings.groups[k];
-        let output = group.output;
-        let source = output.source;
-        word += bit(drive(source, word_bit(outputs, k as u8) == 1), k);
+    for (k, group) in settings.groups.iter().enumerate() {
+        let output = word_bit(outputs, k as u8) == 1;
+        word += bit(drive(group.output.source, output), k);
     }
     word
 }
