@@ -1,7 +1,9 @@
 -- Laws of a recording: the image's tests, the length, then one engine tick after the other. Assumes nothing.
 use Prim.Native.Nat.{ℕ, zero, suc, ◌+◌, ◌*◌, ◌/◌, ◌%◌}
-use mathlib.Core.Path.{◌≡◌, ap, sym, ◌∙◌}
-use mathlib.Core.Bool.{Bool, cond}
+use mathlib.Core.Path.{◌≡◌, refl, ap, sym, ◌∙◌}
+use mathlib.Core.Bool.{Bool, true, false, cond}
+use Rattle.std.proofs.Common.{Result, Ok, Err}
+use Rattle.std.specs.Result.{is_err}
 use mathlib.Core.List.{List}
 use native.Mathlib.Omega.{arith}
 use borrow.Author.Tests.{eq-eqb, ne_eqb}
@@ -14,9 +16,38 @@ use Rattle.records.proofs.VerdictLaws.{number_of, first_cons, first_last, or_els
 use Rattle.image.specs.Reading.{image_verdict, settings_of}
 use Rattle.image.specs.declared.Settings.{Settings}
 use Rattle.detectors.specs.Bank.{start_bank}
-use Rattle.detectors.specs.Tick.{refused_on, engine_ticked}
+use Rattle.detectors.specs.Tick.{refused_on, engine_ticked, detected_of, as_detected}
+use Rattle.detectors.specs.declared.Bank.{Bank}
 use Rattle.detectors.specs.declared.Detected.{Detected}
+use Rattle.detectors.specs.declared.Detection.{Detection}
+use Rattle.detectors.specs.declared.Words.{Words}
+use Rattle.records.proofs.ReturnLaws.{number_some}
+use Rattle.records.specs.declared.Number.{Number}
+use Rattle.records.specs.declared.Refusal.{Refusal}
 use Rattle.recordings.specs.Recordings.{image_then, detected_after, recording_verdict, recorded}
+
+-- ---- an answer field by field
+-- the bank is given back in any case
+pub bank_kept : (detection : Detection) → (as_detected detection).bank ≡ detection.bank
+bank_kept detection = kept detection.bank detection.words
+  where
+    kept : (bank : Bank) (words : Result Words (Refusal Number)) → (detected_of bank words).bank ≡ bank
+    kept bank (Ok words) = refl
+    kept bank (Err refusal) = refl
+
+pub words_accepted : (detection : Detection) → is_err detection.words ≡ false → (as_detected detection).verdict.number ≡ 0
+words_accepted detection good = told detection.bank detection.words good
+  where
+    told : (bank : Bank) (words : Result Words (Refusal Number)) → is_err words ≡ false → (detected_of bank words).verdict.number ≡ 0
+    told bank (Ok words) good = refl
+    told bank (Err refusal) good = absurd (cc)
+
+pub words_refused : (detection : Detection) → is_err detection.words ≡ true → ¬ ((as_detected detection).verdict.number ≡ 0)
+words_refused detection bad = told detection.bank detection.words bad
+  where
+    told : (bank : Bank) (words : Result Words (Refusal Number)) → is_err words ≡ true → ¬ ((detected_of bank words).verdict.number ≡ 0)
+    told bank (Ok words) bad = absurd (cc)
+    told bank (Err refusal) bad = number_some refusal.kind
 
 -- ---- the image's tests, then another length
 
