@@ -53,7 +53,7 @@ pub enum Input {
     NoFunction,
 }
 
-#[derive(Clone, Copy, Default)]
+#[derive(Clone, Copy, PartialEq, Eq, Default)]
 pub struct Logic {
     pub invert: bool,
     pub edge: bool,

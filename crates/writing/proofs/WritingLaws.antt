@@ -1,30 +1,29 @@
 -- Laws of writing: the byte that means a setting, the tests of one group in their order, and the settings group by group. Assumes nothing.
+use Rattle.std.specs.Prelude.{Bool, true, false, Option, Some, None, Result, Ok, Err, IsOk}
 use Prim.Native.Nat.{ℕ, ◌+◌, ◌*◌, ◌^◌, ◌<◌}
 use mathlib.Core.Path.{◌≡◌, refl, ap, ap₂, sym, ◌∙◌}
 use mathlib.Core.List.{List, [], ◌∷◌}
 use native.Mathlib.Omega.{arith}
 use borrow.Author.Count.{below_none, below_more}
 use borrow.Author.Tests.{eq-eqb, ne_eqb}
-use lib.Dec.{eqb}
+use lib.Dec.{eqb, leb}
 use lib.ListN.{length, get_or, replicate}
 use Rattle.records.specs.Bits.{joined}
 use Rattle.records.specs.Lists.{each}
 use Rattle.records.specs.Numbers.{wrong_length, out_of_range}
 use Rattle.records.specs.Verdicts.{accepted, refused, refused_unless, first_refusal}
-use Rattle.records.specs.declared.Verdict.{Verdict}
-use Rattle.records.proofs.BitLaws.{joined_sum}
-use Rattle.records.proofs.ListLaws.{get_d_default, each_ext, each_record}
-use Rattle.records.proofs.VerdictLaws.{tests_accepted, accepted_tests, lowest_shows, first_records}
-use Rattle.image.specs.Codes.{code_number, code_value, lookup, times, pulses, fault_code, input_code, source_code, pull_code}
-use Rattle.image.specs.Reading.{zero_group}
-use Rattle.writing.specs.Writing.{beside, flag, hysteresis_byte, timing_byte, pin_logic_byte, logic_byte, output_byte, group_bytes, setting_byte, code_verdict, settings_verdict, write_verdict, image_of, written, group_verdict, encoded, as_encoded}
-use Rattle.std.specs.Prelude.{Bool, true, false, Option, Some, None, Result, Ok, Err, IsOk}
-use lib.Dec.{leb}
 use Rattle.records.specs.Answers.{verdict_of}
 use Rattle.records.specs.declared.Number.{Number}
 use Rattle.records.specs.declared.Number.TheVariants.{OutOfRange}
 use Rattle.records.specs.declared.Refusal.{Refusal}
+use Rattle.records.specs.declared.Verdict.{Verdict}
+use Rattle.records.proofs.BitLaws.{joined_sum}
+use Rattle.records.proofs.ListLaws.{get_d_default, each_ext, each_record}
+use Rattle.records.proofs.VerdictLaws.{tests_accepted, accepted_tests, lowest_shows, first_records}
 use Rattle.records.proofs.ReturnLaws.{ends_here, goes_on, all_passed, held, number_some}
+use Rattle.image.specs.Codes.{code_number, code_value, lookup, times, pulses, fault_code, input_code, source_code, pull_code}
+use Rattle.image.specs.Reading.{zero_group}
+use Rattle.writing.specs.Writing.{beside, flag, hysteresis_byte, timing_byte, pin_logic_byte, logic_byte, output_byte, group_bytes, setting_byte, code_verdict, settings_verdict, write_verdict, image_of, written, group_verdict, encoded, as_encoded}
 use Rattle.image.specs.declared.Group.{Group}
 use Rattle.image.specs.declared.Logic.{Logic}
 use Rattle.image.specs.declared.Output.{Output}
@@ -206,7 +205,7 @@ module _ (k : ℕ) (group : Group) where
                 ≡ encoded k group
             unfolding group_bytes each
             encoded_is =
-                rw (hysteresis_is _ (holds _ _ over), hysteresis_is _ (holds _ _ under), timing_is group delay timed, named, wired, sym driven)
+                rw (hysteresis_is group.over.hysteresis (holds _ _ over), hysteresis_is group.under.hysteresis (holds _ _ under), timing_is group delay timed, named, wired, sym driven)
                 at (all_coded all_codes)
 
 -- the bytes of a group that is accepted

@@ -21,8 +21,10 @@ fn lookup(table: &[u16], value: u16) -> Option<u8>
     requires { length table.now ≤ 256 }
     ensures { result ≡ lookup table.now value }
 {
-    let place = table.iter().position(|entry| *entry == value)?;
-    Some(place as u8)
+    table
+        .iter()
+        .position(|entry| *entry == value)
+        .map(|place| place as u8)
 }
 
 pub(crate) fn fault_code(faults: FaultType) -> u8

@@ -55,8 +55,7 @@ fn logic_byte(k: usize, logic: Logic) -> Option<u8>
     if k >= 5 {
         return pin_logic_byte(logic);
     }
-    let has_logic = logic.invert || logic.edge || logic.pulse != 0 || logic.delay != 0;
-    (!has_logic).then_some(0)
+    (logic == Logic::default()).then_some(0)
 }
 
 #[tactic(auto, using(crate::proofs::WritingLaws::pulse_lacks, crate::proofs::WritingLaws::delay_lacks, crate::proofs::WritingLaws::pin_logic_is))]
