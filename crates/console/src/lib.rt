@@ -19,7 +19,7 @@ use text::Line;
 
 // Reads the input to its end or until the buffer is full, and answers how many bytes came, at the start of the buffer.
 // A read that fails ends it with its error and no count, however many bytes came before it, so that what came is never
-// taken for the whole input.
+// taken for the whole input. A loop: `read_exact` fails at an input that is shorter, and `read_to_end` takes memory.
 pub fn receive<R: Read>(input: &mut R, buffer: &mut [u8]) -> io::Result<usize>
     ensures within { IfOk result (λ n. IsPrefixLen n buffer.new) }
     ensures bytes { IfOk result (λ n. Consumes (R.remaining input.old) (R.remaining input.new) (take n buffer.new)) }

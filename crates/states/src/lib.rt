@@ -1,7 +1,8 @@
 // A state's eight bytes, in one form wherever a state is bytes: number of the step or cell, held,
 // elapsed (2), ticks (2), two zero bytes. Held and ticks are 0.
 //
-// Every function is total: its definition in specs/ gives a value for every argument of its type.
+// Every function is total: its definition in specs/ gives a value for every argument of its type. They are functions, and
+// no `From`: `State` is a type of `machine`, which knows no bytes.
 #![tactic(auto)]
 
 ghost use Rattle.std.specs.Prelude.{◌≡◌};

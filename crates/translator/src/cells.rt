@@ -22,7 +22,8 @@ pub(crate) fn cells_of(sheet: &[u8], k: u8) -> u16
     cells_for(word_at(sheet, 16 * (k as usize) + 12))
 }
 
-// The first cell of a step.
+// The first cell of a step. A `for`, whose invariant bounds the sum so far: of `(0..step).map(..).sum()` the bound
+// did not close.
 #[tactic(auto, using(crate::proofs::CellCounts::first_zero, crate::proofs::CellCounts::first_more))]
 pub(crate) fn first_cell(sheet: &[u8], step: u8) -> u16
     ensures { result ≡ first_cell sheet.now step }

@@ -56,7 +56,8 @@ impl<'a> Accepted<'a> {
         }
     }
 
-    // The cells of step i, from cell `first` on. Each part has a cell's twelve bytes, so none is refused.
+    // The cells of step i, from cell `first` on. Each part has a cell's twelve bytes, so none is refused. The parts are
+    // lent from 12k on, a form of the paper, and not by `chunks_exact_mut`.
     #[tactic(auto, using(crate::proofs::WriteLaws::cells_written))]
     fn write_step(&self, i: u8, first: u16, cells: u16, table: &mut [u8])
         requires in_bounds { 12 * cell_total self.now.sheet.now ≤ length table.old }
