@@ -8,9 +8,12 @@ use borrow.Author.Tests.{eq-eqb, ne_eqb}
 use lib.Dec.{eqb}
 use lib.ListN.{length}
 use Rattle.records.specs.Verdicts.{accepted}
+use Rattle.records.specs.declared.Verdict.{Verdict}
 use Rattle.records.proofs.Every.{Bytes}
 use Rattle.records.proofs.VerdictLaws.{number_of}
+use Rattle.image.specs.Answers.{Reading}
 use Rattle.image.specs.Reading.{image_verdict, reading}
+use Rattle.image.specs.declared.Settings.{Settings}
 use Rattle.writing.specs.Writing.{write_verdict, written}
 use Rattle.image_laws.proofs.Refusals.{written_refused}
 use Rattle.image_laws.proofs.Acceptance.{write_wrong_length}
@@ -45,3 +48,31 @@ module _ (image buffer : List ℕ) where
               let refused : ¬ ((write_verdict settings buffer).number ≡ 0) = λ zero. omega (arith, sym (ap number_of wrong) ∙ zero) in
               (shows, normal_kept (λ zero. refused (sym (ap number_of shows) ∙ zero)) ∙ sym (written_refused settings buffer refused))
         ]
+
+-- ---- the reader's answer, then the writer's
+module _ (image buffer : List ℕ) {v : Verdict} {settings : Settings} (read : record { verdict = v; settings = settings } ≡ reading image) where
+  refuses : v ≡ image_verdict image
+  unfolding reading
+  refuses = ap (λ (r : Reading). r.verdict) read
+
+  module _ (some : v.number ≡ 0 → ⊥) where
+    refused : normal_verdict image buffer ≡ image_verdict image
+    refused = normal_refused image buffer (λ zero. some (ap number_of refuses ∙ zero))
+
+    -- a refused image leaves the buffer
+    pub image_refused : v ≡ normal_verdict image buffer
+    image_refused = refuses ∙ sym refused
+
+    pub image_keeps : buffer ≡ normal_written image buffer
+    image_keeps = sym (normal_kept image buffer (λ zero. some (ap number_of image_refused ∙ zero)))
+
+  module _ (bytes : Bytes image) (accepts : v.number ≡ 0) where
+    taken : (normal_verdict image buffer ≡ write_verdict (reading image).settings buffer) × (normal_written image buffer ≡ written (reading image).settings buffer)
+    taken = normal_taken image buffer bytes (ap number_of (sym refuses) ∙ accepts)
+
+    -- of an accepted one the writer leaves the normal bytes
+    pub image_answered : {w : Verdict} → w ≡ write_verdict settings buffer → w ≡ normal_verdict image buffer
+    image_answered is = is ∙ ap (λ (r : Reading). write_verdict r.settings buffer) read ∙ sym taken.0
+
+    pub image_written : {after : List ℕ} → after ≡ written settings buffer → after ≡ normal_written image buffer
+    image_written is = is ∙ ap (λ (r : Reading). written r.settings buffer) read ∙ sym taken.1
