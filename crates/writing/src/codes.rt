@@ -1,23 +1,11 @@
 // From a meaning to its lowest code.
 ghost use Rattle.std.specs.Prelude.{◌≤◌, ◌≡◌, length};
-ghost use Rattle.image.specs.Codes.{times, pulses, lookup, fault_code, input_code, source_code, pull_code};
+ghost use Rattle.image.specs.Codes.{lookup, fault_code, input_code, source_code, pull_code};
 
 use image::{FaultType, Input, Pull, Source};
 
-pub(crate) fn time_code(time: u16) -> Option<u8>
-    ensures { result ≡ lookup times time }
-{
-    lookup(&image::TIMES, time)
-}
-
-pub(crate) fn pulse_code(pulse: u16) -> Option<u8>
-    ensures { result ≡ lookup pulses pulse }
-{
-    lookup(&image::PULSES, pulse)
-}
-
 // The lowest place at which a table has the value.
-fn lookup(table: &[u16], value: u16) -> Option<u8>
+pub(crate) fn lookup(table: &[u16], value: u16) -> Option<u8>
     requires { length table.now ≤ 256 }
     ensures { result ≡ lookup table.now value }
 {
@@ -27,6 +15,7 @@ fn lookup(table: &[u16], value: u16) -> Option<u8>
         .map(|place| place as u8)
 }
 
+// A function for each cast: beside other work a cast leaves a goal for each variant.
 pub(crate) fn fault_code(faults: FaultType) -> u8
     ensures { result ≡ fault_code faults }
 {

@@ -5,7 +5,7 @@ ghost use Rattle.writing.specs.Writing.{encoded, as_encoded, logic_byte, pin_log
 
 use crate::codes;
 use bit_fields::join;
-use image::{Group, Logic, Output};
+use image::{Group, Logic, Output, PULSES, TIMES};
 use records::{Number, Refusal, ensure};
 
 // The eight bytes of a group that is accepted.
@@ -16,7 +16,7 @@ pub(crate) fn encode(k: usize, group: Group) -> Result<[u8; 8], Refusal>
 {
     ensure(group.over.hysteresis <= 31, Number::OutOfRange, 8 * k + 1)?;
     ensure(group.under.hysteresis <= 31, Number::OutOfRange, 8 * k + 3)?;
-    let Some(delay) = codes::time_code(group.delay) else {
+    let Some(delay) = codes::lookup(&TIMES, group.delay) else {
         return Err(lacking(8 * k + 4));
     };
     let Some(five) = codes::input_code(k, group.input) else {
@@ -62,8 +62,8 @@ fn logic_byte(k: usize, logic: Logic) -> Option<u8>
 fn pin_logic_byte(logic: Logic) -> Option<u8>
     ensures { result ≡ pin_logic_byte logic }
 {
-    let pulse = codes::pulse_code(logic.pulse)?;
-    let delay = codes::time_code(logic.delay)?;
+    let pulse = codes::lookup(&PULSES, logic.pulse)?;
+    let delay = codes::lookup(&TIMES, logic.delay)?;
     let times = join(pulse, 3, delay);
     Some(join(logic.invert as u8, 6, join(logic.edge as u8, 5, times)))
 }
