@@ -23,6 +23,7 @@ fn image_verdict(image: &[u8]) -> Result<(), Refusal>
     ensures { verdict_of result ≡ image_verdict image.now }
 {
     ensure(image.len() == 80, Number::WrongLength, 0)?;
+    // The part from 8k on for every k, as the paper has it, and no chunks.
     for k in 0..10 {
         part_verdict(k, &image[8 * k..8 * k + 8])?;
     }

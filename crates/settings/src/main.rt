@@ -38,11 +38,9 @@ fn print_groups(output: &mut impl Write, settings: &Settings) -> io::Result<()> 
     // Settings that were read are never refused by the writer.
     let mut normal = [0u8; 80];
     let _ = writing::write(*settings, &mut normal);
-    for (k, group) in settings.groups.iter().enumerate() {
-        print(
-            output,
-            group_line(CHANNELS[k], group, &normal[8 * k..8 * k + 8]),
-        )?;
+    let groups = settings.groups.iter().zip(normal.chunks_exact(8));
+    for (name, (group, bytes)) in CHANNELS.iter().zip(groups) {
+        print(output, group_line(name, group, bytes))?;
     }
     Ok(())
 }

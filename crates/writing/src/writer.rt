@@ -37,6 +37,7 @@ fn write_groups(settings: Settings, buffer: &mut [u8])
     requires settings_value { (settings_verdict settings).number ≡ 0 }
     ensures { buffer.new ≡ image_of settings }
 {
+    // The part lent from 8k on for each group, as the paper has it, and no chunks.
     for (k, group) in settings.groups.iter().enumerate() {
         let bytes = encoder::encode(k, *group).unwrap();
         write_group(bytes, &mut buffer[8 * k..8 * k + 8]);
