@@ -1,70 +1,53 @@
 // The board: its detectors, the engine on its table, and its pins.
-use detectors::Detected;
-use engine::Ticked;
+use detectors::{Bank, Words};
+use engine::{Shown, Table};
 use image::Settings;
-use records::{Verdict, accepted};
+use machine::State;
+use records::Refusal;
 
-// What the detectors, the engine and the pins answer; or the first refusal of the three, with nothing
-// asked of those behind it.
+// After an engine tick: the bank and the engine's state, with what the detectors, the engine and the
+// pins show.
 #[derive(Clone, Copy)]
 pub(crate) struct Board {
-    pub verdict: Verdict,
-    pub detected: Detected,
-    pub ticked: Ticked,
+    bank: Bank,
+    state: State,
+    pub words: Words,
+    pub shown: Shown,
     pub pins: u16,
 }
 
 // Before the first tick: what shows at the engine's start, with no fault and no warning.
-pub(crate) fn start(settings: Settings, table: &[u8]) -> Board {
-    let bank = detectors::start();
-    let detected = Detected {
-        verdict: accepted(),
-        bank,
-        faults: 0,
-        warnings: 0,
-    };
-    let shown = engine::show_table(table, engine::start());
-    driven(settings, detected, shown)
+pub(crate) fn start(settings: Settings, table: &[u8]) -> Result<Board, Refusal> {
+    let state = engine::start();
+    let shown = engine::show::<Table>(table, state)?;
+    Ok(Board {
+        bank: detectors::start(),
+        state,
+        words: Words::default(),
+        shown,
+        pins: pins::pins(settings, shown.outputs)?,
+    })
 }
 
 impl Board {
-    // After one more engine tick, whose faults the engine is given.
-    pub(crate) fn tick(self, settings: Settings, table: &[u8], frames: &[u8]) -> Board {
-        let before = self.detected;
-        let bank = before.bank;
-        let ticked = self.ticked;
-        let state = ticked.state;
-        let detected = detectors::engine_tick(settings, bank, frames);
-        let verdict = detected.verdict;
-        if verdict.number != 0 {
-            return Board {
-                verdict,
-                detected,
-                ticked,
-                pins: 0,
-            };
-        }
-        let ticked = engine::tick_table(table, state, detected.faults);
-        driven(settings, detected, ticked)
-    }
-}
-
-fn driven(settings: Settings, detected: Detected, ticked: Ticked) -> Board {
-    let verdict = ticked.verdict;
-    if verdict.number != 0 {
-        return Board {
-            verdict,
-            detected,
-            ticked,
-            pins: 0,
-        };
-    }
-    let driven = pins::pins(settings, ticked.outputs);
-    let verdict = driven.verdict;
-    Board {
-        verdict,
-        detected,
-        ticked,
-        pins: driven.pins,
+    // After one more engine tick, whose faults the engine is given. The first refusal ends it, and nothing
+    // is asked of those behind it.
+    pub(crate) fn tick(
+        self,
+        settings: Settings,
+        table: &[u8],
+        frames: &[u8],
+    ) -> Result<Board, Refusal> {
+        let detection = detectors::engine_tick(settings, self.bank, frames);
+        let words = detection.words?;
+        let mut state = self.state;
+        let shown = engine::tick::<Table>(table, &mut state, words.faults)?;
+        Ok(Board {
+            bank: detection.bank,
+            state,
+            words,
+            shown,
+            pins: pins::pins(settings, shown.outputs)?,
+        })
     }
 }

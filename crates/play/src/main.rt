@@ -13,72 +13,82 @@
 
 mod board;
 
-ghost use Rattle.std.specs.Prelude.{◌≤◌};
+ghost use Rattle.std.specs.Prelude.{◌≡◌, IfOk};
 ghost use Rattle.io.specs.Counts.{IsPrefixLen};
 
 use board::Board;
-use console::{print, refusal};
+use console::print;
 use image::Settings;
+use records::{Numbered, Refusal};
 use std::io;
 use std::io::{Read, Write};
 use text::Line;
 
-fn main(rt: HostRuntime) -> io::Result<()> {
-    // A read that failed counts no byte, and the reader refuses that.
-    let mut bytes = [0u8; 80];
-    let received = console::receive(&mut rt.stdin(), &mut bytes);
-    let reading = reading::read(&bytes[..received.count]);
-    let verdict = reading.verdict;
-    if verdict.number != 0 {
-        print(
-            &mut rt.stdout(),
-            refusal(b" image", verdict.number, verdict.place),
-        )?;
-        return Ok(());
-    }
-    play_sheet(&mut rt.stdin(), &mut rt.stdout(), reading.settings)
+// Why a run ends before its input does.
+#[derive(Drop)]
+enum Stop {
+    // A space and the part of the input that is refused, and why.
+    Refused(&'static [u8], Refusal),
+    Unprinted(io::Error),
 }
 
-fn play_sheet(
-    input: &mut impl Read,
-    output: &mut impl Write,
-    settings: Settings,
-) -> io::Result<()> {
+impl From<io::Error> for Stop {
+    fn from(error: io::Error) -> Stop {
+        Stop::Unprinted(error)
+    }
+}
+
+fn main(rt: HostRuntime) -> io::Result<()> {
+    match play(&mut rt.stdin(), &mut rt.stdout()) {
+        Ok(()) => Ok(()),
+        Err(Stop::Refused(part, refusal)) => {
+            let line = console::refusal(part, refusal.kind.number(), refusal.place);
+            print(&mut rt.stdout(), line)?;
+            Ok(())
+        }
+        Err(Stop::Unprinted(error)) => Err(error),
+    }
+}
+
+fn play(input: &mut impl Read, output: &mut impl Write) -> Result<(), Stop> {
+    // A read that failed counts no byte, and the reader and the translator refuse that.
+    let mut bytes = [0u8; 80];
+    let count = console::receive(input, &mut bytes).unwrap_or(0);
+    let settings = accepted(b" image", reading::read(&bytes[..count]))?;
     // One byte more than the longest sheet, so that a longer one is refused and not cut.
     let mut sheet = [0u8; 1009];
-    let length = receive_sheet(input, &mut sheet);
+    let length = receive_sheet(input, &mut sheet).unwrap_or(0);
     let mut table = [0u8; 756];
-    let translation = translator::translate(&sheet[..length], &mut table);
-    let verdict = translation.verdict;
-    if verdict.number != 0 {
-        print(output, refusal(b" sheet", verdict.number, verdict.place))?;
-        return Ok(());
-    }
-    let bytes = 12 * translation.cells as usize;
-    play_ticks(input, output, settings, &table[..bytes])
+    let size = accepted(b" sheet", translate(&sheet[..length], &mut table))?;
+    play_ticks(input, output, settings, &table[..size])
+}
+
+// What came of a part of the input; a refusal ends the run.
+fn accepted<T>(part: &'static [u8], answer: Result<T, Refusal>) -> Result<T, Stop>
+    ensures { IfOk result (λ value. answer ≡ Ok value) }
+{
+    answer.map_err(|refusal| Stop::Refused(part, refusal))
 }
 
 // The length of the sheet that came; 0, which the translator refuses, where it is cut short.
-fn receive_sheet(input: &mut impl Read, sheet: &mut [u8]) -> usize
-    ensures { IsPrefixLen result sheet.new }
+fn receive_sheet(input: &mut impl Read, sheet: &mut [u8]) -> io::Result<usize>
+    ensures { IfOk result (λ n. IsPrefixLen n sheet.new) }
 {
     let mut announced = [0u8; 2];
-    let received = console::receive(input, &mut announced);
-    if received.count < 2 {
-        return 0;
+    if console::receive(input, &mut announced)? < 2 {
+        return Ok(0);
     }
-    let length = least(words::word_at(&announced, 0) as usize, sheet.len());
-    let received = console::receive(input, &mut sheet[..length]);
-    if received.count < length {
-        return 0;
-    }
-    length
+    let length = sheet.len().min(u16::from_le_bytes(announced) as usize);
+    let count = console::receive(input, &mut sheet[..length])?;
+    Ok(if count < length { 0 } else { length })
 }
 
-fn least(a: usize, b: usize) -> usize
-    ensures { result ≤ b }
+// How many bytes the table has that the sheet becomes.
+fn translate(sheet: &[u8], table: &mut [u8]) -> Result<usize, Refusal>
+    ensures { IfOk result (λ n. IsPrefixLen n table.new) }
 {
-    if a < b { a } else { b }
+    let cells = translator::translate(sheet, table)?;
+    Ok(12 * cells as usize)
 }
 
 // Stops at the end of the input, at a refusal, or at the last tick that a u64 counts, after 58 million
@@ -88,45 +98,31 @@ fn play_ticks(
     output: &mut impl Write,
     settings: Settings,
     table: &[u8],
-) -> io::Result<()> {
-    let mut board = board::start(settings, table);
+) -> Result<(), Stop> {
+    let mut board = accepted(b" ticks", board::start(settings, table))?;
     print(output, start_line(board))?;
     for tick in 0..u64::MAX {
-        if board.verdict.number != 0 {
-            break;
-        }
         let mut frames = [0u8; 220];
-        let received = console::receive(input, &mut frames);
-        let count = received.count;
-        if count == 0 && !received.failed {
-            break;
-        }
-        board = board.tick(settings, table, &frames[..count]);
+        let count = match console::receive(input, &mut frames) {
+            Ok(0) => break,
+            received => received.unwrap_or(0),
+        };
+        let next = board.tick(settings, table, &frames[..count]);
+        board = accepted(b" ticks", next)?;
         print(output, tick_line(tick + 1, board))?;
     }
     Ok(())
 }
 
 fn start_line(board: Board) -> Line {
-    let verdict = board.verdict;
-    if verdict.number != 0 {
-        return refusal(b" ticks", verdict.number, verdict.place);
-    }
-    let ticked = board.ticked;
-    let line = text::empty().word(b"start").item(ticked.step as u64);
-    word_item(word_item(line, ticked.outputs), board.pins).word(b"\n")
+    let line = text::empty().word(b"start").item(board.shown.step as u64);
+    word_item(word_item(line, board.shown.outputs), board.pins).word(b"\n")
 }
 
 fn tick_line(tick: u64, board: Board) -> Line {
-    let verdict = board.verdict;
-    if verdict.number != 0 {
-        return refusal(b" ticks", verdict.number, verdict.place);
-    }
-    let detected = board.detected;
-    let ticked = board.ticked;
-    let line = text::empty().decimal(tick).item(ticked.step as u64);
-    let line = word_item(word_item(line, ticked.outputs), detected.faults);
-    word_item(word_item(line, detected.warnings), board.pins).word(b"\n")
+    let line = text::empty().decimal(tick).item(board.shown.step as u64);
+    let line = word_item(word_item(line, board.shown.outputs), board.words.faults);
+    word_item(word_item(line, board.words.warnings), board.pins).word(b"\n")
 }
 
 fn word_item(line: Line, word: u16) -> Line {
