@@ -1,9 +1,15 @@
 -- Any two answers that a promise allows are equal, bytes of lent memory included: one line for each public call. Assumes nothing.
 use Prim.Native.Nat.{ℕ}
-use mathlib.Core.Path.{◌≡◌, sym, ◌∙◌}
+use mathlib.Core.Path.{◌≡◌, refl, ap, ap₂, sym, ◌∙◌}
 use mathlib.Core.Bool.{Bool}
 use mathlib.Core.List.{List, ◌∷◌}
+use lib.Dec.{eqb}
 use lib.ListN.{length, get_or}
+use native.Mathlib.Omega.{arith}
+use Rattle.std.specs.Prelude.{cond, Result, Ok, Err}
+use Rattle.records.specs.Answers.{verdict_by, verdict_of}
+use Rattle.records.specs.declared.Number.{Number}
+use Rattle.records.specs.declared.Refusal.{Refusal}
 use Rattle.records.specs.Lists.{copied}
 use Rattle.records.specs.Bits.{bits, joined}
 use Rattle.records.specs.Words.{word_at, bit_word}
@@ -12,7 +18,7 @@ use Rattle.records.specs.declared.Verdict.{Verdict}
 use Rattle.text.specs.Text.{empty_line, appended, written as line_text, decimal_text, hex_text}
 use Rattle.text.specs.declared.Line.{Line}
 use Rattle.console.specs.Refusal.{refusal_line}
-use Rattle.image.specs.Reading.{reading}
+use Rattle.image.specs.Reading.{reading, as_reading}
 use Rattle.image.specs.declared.Group.{Group}
 use Rattle.image.specs.declared.Settings.{Settings}
 use Rattle.writing.specs.Writing.{settings_verdict, write_verdict, written}
@@ -20,12 +26,18 @@ use Rattle.blank_image.specs.Blank.{blank_image}
 use Rattle.channels.specs.Run.{ran_over}
 use Rattle.channels.specs.declared.Channel.{Channel}
 use Rattle.detectors.specs.Bank.{start_bank}
-use Rattle.detectors.specs.Tick.{ticked, engine_ticked}
+use Rattle.detectors.specs.Tick.{ticked, engine_ticked, detected_of, as_detected}
 use Rattle.detectors.specs.declared.Bank.{Bank}
 use Rattle.detectors.specs.declared.Detected.{Detected}
-use Rattle.pins.specs.Pins.{driven}
+use Rattle.detectors.specs.declared.Detection.{Detection}
+use Rattle.detectors.specs.declared.Words.{Words}
+use Rattle.pins.specs.Pins.{driven, as_driven}
 use Rattle.machine.specs.Fields.{elapsed_in_range}
 use Rattle.machine.specs.Machine.{start_state, exit_number, tick_at}
+use Rattle.machine.specs.Fields.{range_fault, jump_without_exit, exit_without_jump}
+use Rattle.machine.specs.Answers.{fault_number, as_standing}
+use Rattle.machine.specs.declared.Fault.{Fault}
+use Rattle.machine.specs.declared.Fault.TheVariants.{Range, JumpWithoutExit, ExitWithoutJump, LevelWithoutChannel}
 use Rattle.machine.specs.declared.Exit.{Exit}
 use Rattle.machine.specs.declared.Node.{Node}
 use Rattle.machine.specs.declared.State.{State}
@@ -35,12 +47,16 @@ use Rattle.steps.specs.declared.Step.{Step}
 use Rattle.sheets.specs.Sheets.{node_at, sheet_verdict}
 use Rattle.states.specs.States.{state_from, state_bytes, bytes_verdict}
 use Rattle.engine.specs.Engine.{Form, ticked as form_ticked, shown_at}
+use Rattle.engine.specs.Answers.{as_ticked}
+use Rattle.engine.specs.declared.Shown.{Shown}
 use Rattle.engine.specs.declared.Ticked.{Ticked}
+use Rattle.translator.specs.Answers.{as_translation}
 use Rattle.translator.specs.Translation.{translation, translated}
 use Rattle.packing.specs.Packed.{packed_parts, packed_translation, packed_verdict, packed_tick, packed_words}
 use Rattle.state_calls.specs.StateCalls.{start_verdict, start_written, ticked_on, shown_on, state_after}
 use Rattle.recordings.specs.Recordings.{recorded}
 use Rattle.capi.specs.Calls.{normal_verdict, normal_written}
+use Rattle.demands.proofs.ResultLaws.{one_result, one_result_by}
 
 -- any two values that a promise allows are equal, where it fixes them by a definition
 abbrev pub OneAnswer {ℓ} : {A : Type ℓ} → A → Type ℓ
@@ -264,3 +280,88 @@ hex line number width = one_answer (appended line (hex_text width number))
 
 pub refusal : (part : List ℕ) (number place : ℕ) → OneAnswer (refusal_line part number place)
 refusal part number place = one_answer (refusal_line part number place)
+
+-- ---- answers that are `Ok` or `Err`: spelled out as a promise spells them, no two are the same
+
+-- any two answers that a promise allows are equal, where it fixes them as `spelled` spells them out
+abbrev pub OneResult : {A R : Type 0} → (Result A (Refusal Number) → R) → Type 0
+OneResult {A = A} spelled = (one other : Result A (Refusal Number)) → spelled one ≡ spelled other → one ≡ other
+
+-- the tests: settings_verdict, write, sheet_verdict, table_verdict, write_cell, bytes_verdict, state_calls::start
+pub tests_once : OneResult {A = Unit {0}} verdict_of
+tests_once = one_result verdict_of (λ v. v) (λ v. tt) (λ answer. refl) (λ x. refl)
+
+read_told : (answer : Result Settings (Refusal Number)) → (as_reading answer).verdict ≡ verdict_of answer
+read_told (Ok settings) = refl
+read_told (Err refusal) = refl
+
+pub read_once : OneResult as_reading
+read_once = one_result as_reading (λ r. r.verdict) (λ r. r.settings) read_told (λ settings. refl)
+
+pins_told : (answer : Result ℕ (Refusal Number)) → (as_driven answer).verdict ≡ verdict_of answer
+pins_told (Ok pins) = refl
+pins_told (Err refusal) = refl
+
+pub pins_once : OneResult as_driven
+pins_once = one_result as_driven (λ r. r.verdict) (λ r. r.pins) pins_told (λ pins. refl)
+
+translate_told : (answer : Result ℕ (Refusal Number)) → (as_translation answer).verdict ≡ verdict_of answer
+translate_told (Ok cells) = refl
+translate_told (Err refusal) = refl
+
+pub translate_once : OneResult as_translation
+translate_once = one_result as_translation (λ r. r.verdict) (λ r. r.cells) translate_told (λ cells. refl)
+
+standing_told : (node : Node) (answer : Result Node (Refusal Number)) → (as_standing node answer).verdict ≡ verdict_of answer
+standing_told node (Ok stood) = refl
+standing_told node (Err refusal) = refl
+
+-- tables::cell_standing
+pub standing_once : (node : Node) → OneResult (as_standing node)
+standing_once node = one_result (as_standing node) (λ r. r.verdict) (λ r. r.node) (standing_told node) (λ stood. refl)
+
+shown_told : (state : State) (answer : Result Shown (Refusal Number)) → (as_ticked state answer).verdict ≡ verdict_of answer
+shown_told state (Ok shown) = refl
+shown_told state (Err refusal) = refl
+
+-- tick and show of engine and of state_calls
+pub shown_once : (state : State) → OneResult (as_ticked state)
+shown_once state = one_result (as_ticked state) (λ r. r.verdict) (λ r. record { outputs = r.outputs; step = r.step }) (shown_told state) (λ shown. refl)
+
+words_told : (bank : Bank) (answer : Result Words (Refusal Number)) → (detected_of bank answer).verdict ≡ verdict_of answer
+words_told bank (Ok words) = refl
+words_told bank (Err refusal) = refl
+
+words_once : (bank : Bank) → OneResult (detected_of bank)
+words_once bank = one_result (detected_of bank) (λ r. r.verdict) (λ r. record { faults = r.faults; warnings = r.warnings }) (words_told bank) (λ words. refl)
+
+bank_of : (bank : Bank) (answer : Result Words (Refusal Number)) → (detected_of bank answer).bank ≡ bank
+bank_of bank (Ok words) = refl
+bank_of bank (Err refusal) = refl
+
+-- tick and engine_tick of detectors, and recorded: the bank and the words
+pub detection_once : (one other : Detection) → as_detected one ≡ as_detected other → one ≡ other
+detection_once one other e =
+    let banks : one.bank ≡ other.bank = sym (bank_of one.bank one.words) ∙ ap (λ (d : Detected). d.bank) e ∙ bank_of other.bank other.words in
+    let words : one.words ≡ other.words = words_once other.bank one.words other.words (ap (λ (b : Bank). detected_of b one.words) (sym banks) ∙ e) in
+    ap₂ (λ (bank : Bank) (words : Result Words (Refusal Number)). record { bank = bank; words = words }) banks words
+
+-- steps::step_fault: its kinds of fault have numbers of their own
+fault_of : ℕ → Fault
+fault_of n = cond (eqb n range_fault) Range (cond (eqb n jump_without_exit) JumpWithoutExit (cond (eqb n exit_without_jump) ExitWithoutJump LevelWithoutChannel))
+
+fault_back : (kind : Fault) → fault_of (fault_number kind) ≡ kind
+unfolding fault_of
+fault_back Range = refl
+fault_back JumpWithoutExit = refl
+fault_back ExitWithoutJump = refl
+fault_back LevelWithoutChannel = refl
+
+fault_some : (kind : Fault) → fault_number kind ≡ 0 → ⊥
+fault_some Range e = absurd (omega arith)
+fault_some JumpWithoutExit e = absurd (omega arith)
+fault_some ExitWithoutJump e = absurd (omega arith)
+fault_some LevelWithoutChannel e = absurd (omega arith)
+
+pub faults_once : (one other : Result (Unit {0}) (Refusal Fault)) → verdict_by fault_number one ≡ verdict_by fault_number other → one ≡ other
+faults_once = one_result_by fault_number fault_of fault_back fault_some (verdict_by fault_number) (λ v. v) (λ v. tt) (λ answer. refl) (λ x. refl)

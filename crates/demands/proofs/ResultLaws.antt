@@ -1,10 +1,10 @@
 -- An answer is known by its verdict and its value. Assumes nothing.
 use Prim.Native.Nat.{ℕ}
-use mathlib.Core.Path.{◌≡◌, refl, ap, ap₂, sym, ◌∙◌}
+use mathlib.Core.Path.{◌≡◌, refl, ap, sym, ◌∙◌}
 use lib.Dec.{eqb}
 use Rattle.std.specs.Prelude.{cond, Result, Ok, Err}
-use Rattle.records.specs.Verdicts.{accepted, refused}
-use Rattle.records.specs.Answers.{number_of, verdict_of}
+use Rattle.records.specs.Verdicts.{refused}
+use Rattle.records.specs.Answers.{number_of, verdict_by, verdict_of}
 use Rattle.records.specs.declared.Number.{Number}
 use Rattle.records.specs.declared.Number.TheVariants.{WrongLength, Reserved, Unprinted, OutOfRange, RepeatedTag, UnknownTag, TooManyCells, Unreachable, BadWord, NoRoom}
 use Rattle.records.specs.declared.Refusal.{Refusal}
@@ -37,19 +37,26 @@ kind_back Unreachable = refl
 kind_back BadWord = refl
 kind_back NoRoom = refl
 
-refusal_at : Verdict → Refusal Number
-refusal_at verdict = record { kind = kind_of verdict.number; place = verdict.place }
+-- two answers with one verdict and one value are one answer, where the kinds have numbers of their own, and none of them 0
+module _ {K : Type 0} (number : K → ℕ) (kind : ℕ → K) (back : (k : K) → kind (number k) ≡ k) (some : (k : K) → number k ≡ 0 → ⊥) where
+  refusal_at : Verdict → Refusal K
+  refusal_at verdict = record { kind = kind verdict.number; place = verdict.place }
 
-refusal_back : (refusal : Refusal Number) → refusal_at (refused (number_of refusal.kind) refusal.place) ≡ refusal
-unfolding refusal_at
-refusal_back refusal i = record { kind = kind_back refusal.kind i; place = refusal.place }
+  refusal_back : (refusal : Refusal K) → refusal_at (refused (number refusal.kind) refusal.place) ≡ refusal
+  unfolding refusal_at
+  refusal_back refusal i = record { kind = back refusal.kind i; place = refusal.place }
 
--- two answers with one verdict and one value are one answer
-module _ {A R : Type 0} (spelled : Result A (Refusal Number) → R) (verdict : R → Verdict) (value : R → A)
-    (told : (answer : Result A (Refusal Number)) → verdict (spelled answer) ≡ verdict_of answer) (kept : (x : A) → value (spelled (Ok x)) ≡ x) where
-  pub one_result : (one other : Result A (Refusal Number)) → spelled one ≡ spelled other → one ≡ other
-  one_result (Ok x) (Ok y) e = ap Ok (sym (kept x) ∙ ap value e ∙ kept y)
-  one_result (Ok x) (Err b) e = absurd (number_some b.kind (sym (ap (λ (v : Verdict). v.number) (sym (told (Ok x)) ∙ ap verdict e ∙ told (Err b)))))
-  one_result (Err a) (Ok y) e = absurd (number_some a.kind (ap (λ (v : Verdict). v.number) (sym (told (Err a)) ∙ ap verdict e ∙ told (Ok y))))
-  one_result (Err a) (Err b) e =
-      ap Err (sym (refusal_back a) ∙ ap refusal_at (sym (told (Err a)) ∙ ap verdict e ∙ told (Err b)) ∙ refusal_back b)
+  module _ {A R : Type 0} (spelled : Result A (Refusal K) → R) (verdict : R → Verdict) (value : R → A)
+      (told : (answer : Result A (Refusal K)) → verdict (spelled answer) ≡ verdict_by number answer) (kept : (x : A) → value (spelled (Ok x)) ≡ x) where
+    pub one_result_by : (one other : Result A (Refusal K)) → spelled one ≡ spelled other → one ≡ other
+    one_result_by (Ok x) (Ok y) e = ap Ok (sym (kept x) ∙ ap value e ∙ kept y)
+    one_result_by (Ok x) (Err b) e = absurd (some b.kind (sym (ap (λ (v : Verdict). v.number) (sym (told (Ok x)) ∙ ap verdict e ∙ told (Err b)))))
+    one_result_by (Err a) (Ok y) e = absurd (some a.kind (ap (λ (v : Verdict). v.number) (sym (told (Err a)) ∙ ap verdict e ∙ told (Ok y))))
+    one_result_by (Err a) (Err b) e =
+        ap Err (sym (refusal_back a) ∙ ap refusal_at (sym (told (Err a)) ∙ ap verdict e ∙ told (Err b)) ∙ refusal_back b)
+
+-- the same of the paper's numbers
+pub one_result : {A R : Type 0} (spelled : Result A (Refusal Number) → R) (verdict : R → Verdict) (value : R → A)
+    → ((answer : Result A (Refusal Number)) → verdict (spelled answer) ≡ verdict_of answer) → ((x : A) → value (spelled (Ok x)) ≡ x)
+    → (one other : Result A (Refusal Number)) → spelled one ≡ spelled other → one ≡ other
+one_result spelled verdict value told kept = one_result_by number_of kind_of kind_back number_some spelled verdict value told kept

@@ -23,11 +23,7 @@ pub(crate) fn is_ticked_on<F: Form>(
     is_answer(state_calls::tick::<F>(bytes, state, word), state, expected)
 }
 
-pub(crate) fn is_shown_on<F: Form>(
-    given: &[u8],
-    state: &[u8],
-    expected: &mut Fields<'_>,
-) -> bool {
+pub(crate) fn is_shown_on<F: Form>(given: &[u8], state: &[u8], expected: &mut Fields<'_>) -> bool {
     is_answer(state_calls::show::<F>(given, state), state, expected)
 }
 

@@ -15,11 +15,36 @@ struct Read {
 }
 
 const READS: [Read; 5] = [
-    Read { name: "read, 79 bytes:", one: 0x20, seven: 0xC0, length: 79 },
-    Read { name: "read, then 80:", one: 0x20, seven: 0xC0, length: 80 },
-    Read { name: "read, then byte 1 mended:", one: 0, seven: 0xC0, length: 80 },
-    Read { name: "read, then bit 7 mended:", one: 0, seven: 0x40, length: 80 },
-    Read { name: "read, then byte 7 mended:", one: 0, seven: 0x10, length: 80 },
+    Read {
+        name: "read, 79 bytes:",
+        one: 0x20,
+        seven: 0xC0,
+        length: 79,
+    },
+    Read {
+        name: "read, then 80:",
+        one: 0x20,
+        seven: 0xC0,
+        length: 80,
+    },
+    Read {
+        name: "read, then byte 1 mended:",
+        one: 0,
+        seven: 0xC0,
+        length: 80,
+    },
+    Read {
+        name: "read, then bit 7 mended:",
+        one: 0,
+        seven: 0x40,
+        length: 80,
+    },
+    Read {
+        name: "read, then byte 7 mended:",
+        one: 0,
+        seven: 0x10,
+        length: 80,
+    },
 ];
 
 // Length, then the lowest address, and there 2 before 3.
@@ -78,11 +103,41 @@ struct Frame {
 }
 
 const FRAMES: [Frame; 5] = [
-    Frame { name: "detector tick, 10 bytes:", hysteresis: 32, count: 1, levels: 32, length: 10 },
-    Frame { name: "detector tick, then 11:", hysteresis: 32, count: 1, levels: 32, length: 11 },
-    Frame { name: "detector tick, then settings mended:", hysteresis: 31, count: 1, levels: 32, length: 11 },
-    Frame { name: "detector tick, then state mended:", hysteresis: 31, count: 0, levels: 32, length: 11 },
-    Frame { name: "detector tick, then level byte 31:", hysteresis: 31, count: 0, levels: 31, length: 11 },
+    Frame {
+        name: "detector tick, 10 bytes:",
+        hysteresis: 32,
+        count: 1,
+        levels: 32,
+        length: 10,
+    },
+    Frame {
+        name: "detector tick, then 11:",
+        hysteresis: 32,
+        count: 1,
+        levels: 32,
+        length: 11,
+    },
+    Frame {
+        name: "detector tick, then settings mended:",
+        hysteresis: 31,
+        count: 1,
+        levels: 32,
+        length: 11,
+    },
+    Frame {
+        name: "detector tick, then state mended:",
+        hysteresis: 31,
+        count: 0,
+        levels: 32,
+        length: 11,
+    },
+    Frame {
+        name: "detector tick, then level byte 31:",
+        hysteresis: 31,
+        count: 0,
+        levels: 31,
+        length: 11,
+    },
 ];
 
 // Length, settings, state, level byte.

@@ -18,35 +18,161 @@ struct Tick {
 }
 
 const TABLE_WORDS: [Tick; 2] = [
-    Tick { name: "table, word 1023:", mended: 1, length: 756, at: 0, elapsed: 0, word: 1023 },
-    Tick { name: "table, word 1024:", mended: 1, length: 756, at: 0, elapsed: 0, word: 1024 },
+    Tick {
+        name: "table, word 1023:",
+        mended: 1,
+        length: 756,
+        at: 0,
+        elapsed: 0,
+        word: 1023,
+    },
+    Tick {
+        name: "table, word 1024:",
+        mended: 1,
+        length: 756,
+        at: 0,
+        elapsed: 0,
+        word: 1024,
+    },
 ];
 
 const SHEET_WORDS: [Tick; 2] = [
-    Tick { name: "sheet, word 1023:", mended: 6, length: 1008, at: 0, elapsed: 0, word: 1023 },
-    Tick { name: "sheet, word 1024:", mended: 6, length: 1008, at: 0, elapsed: 0, word: 1024 },
+    Tick {
+        name: "sheet, word 1023:",
+        mended: 6,
+        length: 1008,
+        at: 0,
+        elapsed: 0,
+        word: 1023,
+    },
+    Tick {
+        name: "sheet, word 1024:",
+        mended: 6,
+        length: 1008,
+        at: 0,
+        elapsed: 0,
+        word: 1024,
+    },
 ];
 
 // Length, the cell's number, that cell, elapsed, word.
 const TABLE_ORDER: [Tick; 6] = [
-    Tick { name: "table tick, 755 bytes:", mended: 0, length: 755, at: 63, elapsed: 1, word: 1024 },
-    Tick { name: "table tick, then 756:", mended: 0, length: 756, at: 63, elapsed: 1, word: 1024 },
-    Tick { name: "table tick, then cell 62:", mended: 0, length: 756, at: 62, elapsed: 1, word: 1024 },
-    Tick { name: "table tick, then its outputs mended:", mended: 1, length: 756, at: 62, elapsed: 1, word: 1024 },
-    Tick { name: "table tick, then elapsed 0:", mended: 1, length: 756, at: 62, elapsed: 0, word: 1024 },
-    Tick { name: "table tick, then word 1023:", mended: 1, length: 756, at: 62, elapsed: 0, word: 1023 },
+    Tick {
+        name: "table tick, 755 bytes:",
+        mended: 0,
+        length: 755,
+        at: 63,
+        elapsed: 1,
+        word: 1024,
+    },
+    Tick {
+        name: "table tick, then 756:",
+        mended: 0,
+        length: 756,
+        at: 63,
+        elapsed: 1,
+        word: 1024,
+    },
+    Tick {
+        name: "table tick, then cell 62:",
+        mended: 0,
+        length: 756,
+        at: 62,
+        elapsed: 1,
+        word: 1024,
+    },
+    Tick {
+        name: "table tick, then its outputs mended:",
+        mended: 1,
+        length: 756,
+        at: 62,
+        elapsed: 1,
+        word: 1024,
+    },
+    Tick {
+        name: "table tick, then elapsed 0:",
+        mended: 1,
+        length: 756,
+        at: 62,
+        elapsed: 0,
+        word: 1024,
+    },
+    Tick {
+        name: "table tick, then word 1023:",
+        mended: 1,
+        length: 756,
+        at: 62,
+        elapsed: 0,
+        word: 1023,
+    },
 ];
 
 // The sheet's tests without cells and room, the step's number, elapsed, word.
 const SHEET_ORDER: [Tick; 8] = [
-    Tick { name: "sheet tick, 1024 bytes:", mended: 0, length: 1024, at: 63, elapsed: 1, word: 1024 },
-    Tick { name: "sheet tick, then 1008:", mended: 0, length: 1008, at: 63, elapsed: 1, word: 1024 },
-    Tick { name: "sheet tick, then outputs mended:", mended: 3, length: 1008, at: 63, elapsed: 1, word: 1024 },
-    Tick { name: "sheet tick, then the tag mended:", mended: 5, length: 1008, at: 63, elapsed: 1, word: 1024 },
-    Tick { name: "sheet tick, then the jump mended:", mended: 6, length: 1008, at: 63, elapsed: 1, word: 1024 },
-    Tick { name: "sheet tick, then step 62:", mended: 6, length: 1008, at: 62, elapsed: 1, word: 1024 },
-    Tick { name: "sheet tick, then elapsed 0:", mended: 6, length: 1008, at: 62, elapsed: 0, word: 1024 },
-    Tick { name: "sheet tick, then word 1023:", mended: 6, length: 1008, at: 62, elapsed: 0, word: 1023 },
+    Tick {
+        name: "sheet tick, 1024 bytes:",
+        mended: 0,
+        length: 1024,
+        at: 63,
+        elapsed: 1,
+        word: 1024,
+    },
+    Tick {
+        name: "sheet tick, then 1008:",
+        mended: 0,
+        length: 1008,
+        at: 63,
+        elapsed: 1,
+        word: 1024,
+    },
+    Tick {
+        name: "sheet tick, then outputs mended:",
+        mended: 3,
+        length: 1008,
+        at: 63,
+        elapsed: 1,
+        word: 1024,
+    },
+    Tick {
+        name: "sheet tick, then the tag mended:",
+        mended: 5,
+        length: 1008,
+        at: 63,
+        elapsed: 1,
+        word: 1024,
+    },
+    Tick {
+        name: "sheet tick, then the jump mended:",
+        mended: 6,
+        length: 1008,
+        at: 63,
+        elapsed: 1,
+        word: 1024,
+    },
+    Tick {
+        name: "sheet tick, then step 62:",
+        mended: 6,
+        length: 1008,
+        at: 62,
+        elapsed: 1,
+        word: 1024,
+    },
+    Tick {
+        name: "sheet tick, then elapsed 0:",
+        mended: 6,
+        length: 1008,
+        at: 62,
+        elapsed: 0,
+        word: 1024,
+    },
+    Tick {
+        name: "sheet tick, then word 1023:",
+        mended: 6,
+        length: 1008,
+        at: 62,
+        elapsed: 0,
+        word: 1023,
+    },
 ];
 
 pub(crate) fn try_words(output: &mut impl Write) -> io::Result<()> {
@@ -97,10 +223,30 @@ fn nine_steps(high: u8) -> [u8; 756] {
 
 // The state's bytes, their length and then held, before the call's own tests.
 pub(crate) fn try_bytes_order(output: &mut impl Write) -> io::Result<()> {
-    tick_bytes(output, "tick on bytes, 7 of them:", &mut [62, 1, 0, 0, 0, 0, 0], 1024)?;
-    tick_bytes(output, "tick on bytes, then 8:", &mut [62, 1, 0, 0, 0, 0, 0, 0], 1024)?;
-    tick_bytes(output, "tick on bytes, then held mended:", &mut [62, 0, 0, 0, 0, 0, 0, 0], 1024)?;
-    tick_bytes(output, "tick on bytes, then word 1023:", &mut [62, 0, 0, 0, 0, 0, 0, 0], 1023)
+    tick_bytes(
+        output,
+        "tick on bytes, 7 of them:",
+        &mut [62, 1, 0, 0, 0, 0, 0],
+        1024,
+    )?;
+    tick_bytes(
+        output,
+        "tick on bytes, then 8:",
+        &mut [62, 1, 0, 0, 0, 0, 0, 0],
+        1024,
+    )?;
+    tick_bytes(
+        output,
+        "tick on bytes, then held mended:",
+        &mut [62, 0, 0, 0, 0, 0, 0, 0],
+        1024,
+    )?;
+    tick_bytes(
+        output,
+        "tick on bytes, then word 1023:",
+        &mut [62, 0, 0, 0, 0, 0, 0, 0],
+        1023,
+    )
 }
 
 fn tick_bytes(output: &mut impl Write, name: &str, state: &mut [u8], word: u16) -> io::Result<()> {

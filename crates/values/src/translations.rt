@@ -14,19 +14,64 @@ struct Translation {
 }
 
 const CELLS: [Translation; 2] = [
-    Translation { name: "six steps of 40000 and three of 1:", steps: 6, length: 144, room: 756 },
-    Translation { name: "six steps of 40000 and four of 1:", steps: 6, length: 160, room: 756 },
+    Translation {
+        name: "six steps of 40000 and three of 1:",
+        steps: 6,
+        length: 144,
+        room: 756,
+    },
+    Translation {
+        name: "six steps of 40000 and four of 1:",
+        steps: 6,
+        length: 160,
+        room: 756,
+    },
 ];
 
 // Length, fields, repeated tags, unknown tags, cells, room.
 const ORDER: [Translation; 7] = [
-    Translation { name: "translation, 1024 bytes:", steps: 0, length: 1024, room: 755 },
-    Translation { name: "translation, then 1008:", steps: 0, length: 1008, room: 755 },
-    Translation { name: "translation, then outputs mended:", steps: 3, length: 1008, room: 755 },
-    Translation { name: "translation, then the tag mended:", steps: 5, length: 1008, room: 755 },
-    Translation { name: "translation, then the jump mended:", steps: 6, length: 1008, room: 755 },
-    Translation { name: "translation, then nine steps:", steps: 6, length: 144, room: 755 },
-    Translation { name: "translation, then 756 bytes of room:", steps: 6, length: 144, room: 756 },
+    Translation {
+        name: "translation, 1024 bytes:",
+        steps: 0,
+        length: 1024,
+        room: 755,
+    },
+    Translation {
+        name: "translation, then 1008:",
+        steps: 0,
+        length: 1008,
+        room: 755,
+    },
+    Translation {
+        name: "translation, then outputs mended:",
+        steps: 3,
+        length: 1008,
+        room: 755,
+    },
+    Translation {
+        name: "translation, then the tag mended:",
+        steps: 5,
+        length: 1008,
+        room: 755,
+    },
+    Translation {
+        name: "translation, then the jump mended:",
+        steps: 6,
+        length: 1008,
+        room: 755,
+    },
+    Translation {
+        name: "translation, then nine steps:",
+        steps: 6,
+        length: 144,
+        room: 755,
+    },
+    Translation {
+        name: "translation, then 756 bytes of room:",
+        steps: 6,
+        length: 144,
+        room: 756,
+    },
 ];
 
 pub(crate) fn try_cells(output: &mut impl Write) -> io::Result<()> {
