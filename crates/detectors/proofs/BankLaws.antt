@@ -1,21 +1,18 @@
 -- Laws of ten channels. Assumes nothing.
-use Prim.Native.Nat.{ℕ, ◌<◌}
+use Prim.Native.Nat.{ℕ}
 use mathlib.Core.Path.{◌≡◌, ap, ap₂, ◌∙◌}
 use mathlib.Core.Bool.{Bool}
 use mathlib.Core.List.{List}
-use lib.ListN.{length, get_or}
+use lib.ListN.{length}
 use mir.Val.{Val}
 use denote.Laws.{Is as Owned}
 use denote.Struct.Declared.{row}
 use Rattle.records.specs.Numbers.{unreachable}
 use Rattle.records.specs.Verdicts.{refused_unless}
 use Rattle.records.specs.declared.Verdict.{Verdict}
-use Rattle.image.specs.Reading.{group_at, zero_group}
+use Rattle.image.specs.Reading.{group_at}
 use Rattle.image.specs.declared.Group.{Group}
-use Rattle.channels.specs.Channel.{start_channel}
 use Rattle.channels.specs.declared.Channel.{Channel}
-use Rattle.records.proofs.ListLaws.{get_d_default}
-use native.Mathlib.Omega.{arith}
 use Rattle.image.specs.declared.Settings.{Settings}
 use Rattle.detectors.specs.Bank.{channel_at, in_range}
 use Rattle.detectors.specs.declared.Bank.{Bank}
@@ -29,13 +26,7 @@ ten_channels bank values owned = owned.1.1.0.1.0.1
 abbrev pub channel_test : Settings → Bank → ℕ → Verdict
 channel_test settings bank k = refused_unless (in_range k (group_at settings k) (channel_at bank k)) unreachable k
 
-pub tested : (settings : Settings) (bank : Bank) (k : ℕ) (d : Group) (e : Channel) {holds : Bool}
-    → length settings.groups ≡ 10
-    → length bank.channels ≡ 10
-    → k < 10
-    → holds ≡ in_range k (get_or settings.groups k d) (get_or bank.channels k e)
+pub tested : (settings : Settings) (bank : Bank) (k : ℕ) {group : Group} {channel : Channel} {holds : Bool} → group ≡ group_at settings k → channel ≡ channel_at bank k
+    → holds ≡ in_range k group channel
     → refused_unless holds unreachable k ≡ channel_test settings bank k
-tested settings bank k d e groups channels h is =
-    ap (λ (b : Bool). refused_unless b unreachable k)
-    (is
-    ∙ ap₂ (in_range k) (get_d_default settings.groups k _ (zero_group k) (omega arith)) (get_d_default bank.channels k _ start_channel (omega arith)))
+tested settings bank k group channel is = ap (λ (b : Bool). refused_unless b unreachable k) (is ∙ ap₂ (in_range k) group channel)

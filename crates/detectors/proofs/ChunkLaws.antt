@@ -1,13 +1,13 @@
--- Laws of a list that is taken apart from the front, `width` elements at a time. Assumes nothing.
-use Prim.Native.Nat.{ℕ, ◌+◌, ◌-◌, ◌*◌, ◌/◌, ◌<◌, ◌≤◌}
+-- Laws of a list that is taken apart from the front, `width` elements at a time or one. Assumes nothing.
+use Prim.Native.Nat.{ℕ, suc, ◌+◌, ◌-◌, ◌*◌, ◌/◌, ◌<◌, ◌≤◌}
 use mathlib.Core.Path.{◌≡◌, ap, sym, ◌∙◌}
-use mathlib.Core.List.{List, ◌++◌}
+use mathlib.Core.List.{List, ◌∷◌, ◌++◌}
 use native.Mathlib.Nat.{mul-suc}
 use native.Mathlib.Numerals.{add-one}
 use native.Mathlib.Omega.{arith}
 use Rattle.std.proofs.Math.Nat.{le-div_iff_mul-le, div-lt_iff_lt-mul}
-use lib.ListN.{length, take, drop, length-append, length-drop}
-use lib.Seq.{drop-drop, take_at, drop_at}
+use lib.ListN.{length, get_or, take, drop, length-append, length-drop}
+use lib.Seq.{drop-cons, drop-drop, take_at, drop_at}
 
 -- what is left after k chunks
 module _ {A : Type 0} (width k : ℕ) (whole : List A) {rest : List A} (left : rest ≡ drop (width * k) whole) where
@@ -39,3 +39,27 @@ module _ {A : Type 0} (width k : ℕ) (whole : List A) {rest : List A} (left : r
         sym (ap (drop width) (sym left ∙ cut) ∙ drop_at chunk others width wide)
         ∙ drop-drop width (width * k) whole
         ∙ ap (λ (n : ℕ). drop n whole) (sym (mul-suc width k) ∙ ap (λ (n : ℕ). width * n) (sym (add-one k)))
+
+-- what is left after k elements
+module _ {A : Type 0} (k : ℕ) (whole : List A) {rest : List A} (left : rest ≡ drop k whole) where
+  element_length : length rest ≡ length whole - k
+  element_length = ap length left ∙ length-drop k whole
+
+  pub no_element_left : length rest ≡ 0 → length whole ≤ k
+  no_element_left none = omega (arith, element_length)
+
+  -- begins with element k, and has the next behind it
+  module _ (element : A) (others : List A) (cut : rest ≡ element ∷ others) where
+    pub element_left : k < length whole
+    element_left =
+        let parts : length rest ≡ suc (length others) = ap length cut in
+        omega (arith, element_length)
+
+    pub element_is : (d : A) → element ≡ get_or whole k d
+    element_is d = let cons = drop-cons whole k d element_left in cc
+
+    pub elements_left : others ≡ drop (k + 1) whole
+    elements_left =
+        let cons = drop-cons whole k element element_left in
+        let behind : others ≡ drop (suc k) whole = cc in
+        behind ∙ ap (λ (n : ℕ). drop n whole) (sym (add-one k))

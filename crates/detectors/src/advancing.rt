@@ -32,8 +32,8 @@ pub(crate) fn advance<const N: usize>(
 {
     let mut after = bank;
     let mut words = Words::default();
-    for (k, channel) in bank.channels.iter().enumerate() {
-        let ran = channel.run(settings.groups[k], frames, N, k);
+    for (k, (group, channel)) in settings.groups.iter().zip(&bank.channels).enumerate() {
+        let ran = channel.run(*group, frames, N, k);
         after.channels[k] = ran.channel;
         words.faults += bit(ran.fault, k);
         words.warnings += bit(ran.warning, k);
@@ -46,12 +46,8 @@ pub(crate) fn advance<const N: usize>(
 pub(crate) fn bank_verdict(settings: Settings, bank: Bank) -> Result<(), Refusal>
     ensures { verdict_of result ≡ bank_verdict settings bank }
 {
-    for (k, channel) in bank.channels.iter().enumerate() {
-        ensure(
-            in_range(k, settings.groups[k], *channel),
-            Number::Unreachable,
-            k,
-        )?;
+    for (k, (group, channel)) in settings.groups.iter().zip(&bank.channels).enumerate() {
+        ensure(in_range(k, *group, *channel), Number::Unreachable, k)?;
     }
     Ok(())
 }
