@@ -16,7 +16,7 @@ use text::Line;
 
 fn main(rt: HostRuntime) -> io::Result<()> {
     // One byte more than the longest sheet, so that a longer input is refused and not cut. Of a read that fails no byte
-    // counts.
+    // counts. Buffers of a fixed size: no program here takes memory from a heap.
     let mut sheet = [0u8; 1009];
     let count = console::receive(&mut rt.stdin(), &mut sheet).unwrap_or(0);
     let mut table = [0u8; 756];

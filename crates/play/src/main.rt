@@ -51,7 +51,8 @@ fn main(rt: HostRuntime) -> io::Result<()> {
 }
 
 fn play(input: &mut impl Read, output: &mut impl Write) -> Result<(), Stop> {
-    // A read that failed counts no byte, and the reader and the translator refuse that.
+    // A read that failed counts no byte, and the reader and the translator refuse that. Buffers of a fixed size: no
+    // program here takes memory from a heap.
     let mut bytes = [0u8; 80];
     let count = console::receive(input, &mut bytes).unwrap_or(0);
     let settings = accepted(b" image", reading::read(&bytes[..count]))?;

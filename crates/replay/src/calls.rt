@@ -9,7 +9,8 @@ use engine::{Sheet, Table};
 use image::Settings;
 use states::state_bytes;
 
-// Whether the call of a kind answers what is expected. A kind that is not known is not alike.
+// Whether the call of a kind answers what is expected. A kind that is not known is not alike. Kinds are the numbers of
+// docs/CASES.md: an enum of eighteen calls would list each of them twice more.
 pub(crate) fn is_alike(kind: u8, given: &[u8], lent: &mut [u8], expected: &[u8]) -> bool {
     let expected = &mut Fields::new(expected);
     match kind {

@@ -18,6 +18,7 @@ use std::io::{Read, Write};
 use text::Line;
 use words::word_at;
 
+// Buffers of a fixed size, and so a longest part: no program here takes memory from a heap.
 const LONGEST: usize = 4096;
 
 // What came of the stream's next case.

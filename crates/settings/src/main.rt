@@ -19,6 +19,7 @@ use text::Line;
 
 fn main(rt: HostRuntime) -> io::Result<()> {
     // One byte more than an image, so that a longer input is refused and not cut. Of a read that fails no byte counts.
+    // Buffers of a fixed size: no program here takes memory from a heap.
     let mut buffer = [0u8; 81];
     let count = console::receive(&mut rt.stdin(), &mut buffer).unwrap_or(0);
     let output = &mut rt.stdout();
