@@ -5,10 +5,8 @@ use Rattle.state_calls.proofs.tick.Goals as goal
 
 pub returns-in_err-shown-clause-value : goal.returns-in_err-shown-clause-value
 returns-in_err-shown-clause-value g c =
-    let next = c.in_ok-next.ensures in
-    refused_on _ _ _ _ next.verdict next.state (search rules) c.in_err-shown.ensures
+    refused_on _ _ _ _ (search rules) (search rules) (search rules) c.in_err-shown.ensures
 
 pub returns-clause-value : goal.returns-clause-value
 returns-clause-value g c =
-    let next = c.in_ok-next.ensures in
-    answered_on _ _ _ _ next.verdict next.state (search rules) (λ i. (c.type_inv.state i).fits) (c.in_ok-shown.ensures)
+    answered_on _ _ _ _ (search rules) (search rules) (search rules) (λ i. (c.type_inv.state i).fits) c.in_ok-shown.ensures
