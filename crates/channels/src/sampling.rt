@@ -17,12 +17,18 @@ impl Channel {
         let under = under_after(group.under, self.under, sample.value);
         let raw = raw_fault(group.faults, over, under);
         let logic = logic_after(group.logic, sample.level, self.logic);
+        let tick = LogicTick {
+            logic: group.logic,
+            before: self.logic,
+            after: logic,
+            left: self.left,
+        };
         Channel {
             over,
             under,
             analog: filter_after(group.delay, raw, self.analog),
             logic,
-            left: left_after(group.logic, self.logic, logic, self.left),
+            left: tick.left_after(),
         }
     }
 
@@ -101,35 +107,46 @@ fn logic_after(logic: Logic, level: bool, filter: Filter) -> Filter
     filter_after(logic.delay, level ^ logic.invert, filter)
 }
 
-// "A filtered rise sets n to pulse/5, else n is what was left."
-#[tactic(auto, unfolding(crate::specs::Channel::pulse_now, crate::specs::Channel::ticks))]
-fn pulse_now(logic: Logic, before: Filter, after: Filter, left: u16) -> u16
-    ensures { result ≡ pulse_now logic before after left }
-{
-    if after.filtered && !before.filtered {
-        return logic.pulse / 5;
-    }
-    left
+// One tick of a channel's logic part: its filter before and after, and what was left of a pulse.
+#[derive(Clone, Copy)]
+struct LogicTick {
+    logic: Logic,
+    before: Filter,
+    after: Filter,
+    left: u16,
 }
 
-#[tactic(auto, unfolding(crate::specs::Channel::left_after))]
-fn left_after(logic: Logic, before: Filter, after: Filter, left: u16) -> u16
-    ensures { result ≡ left_after logic before after left }
-{
-    if logic.edge {
-        return pulse_now(logic, before, after, left).saturating_sub(1);
+impl LogicTick {
+    // "A filtered rise sets n to pulse/5, else n is what was left."
+    #[tactic(auto, unfolding(crate::specs::Channel::pulse_now, crate::specs::Channel::ticks))]
+    fn pulse_now(self) -> u16
+        ensures { result ≡ pulse_now self.logic self.before self.after self.left }
+    {
+        if self.after.filtered && !self.before.filtered {
+            return self.logic.pulse / 5;
+        }
+        self.left
     }
-    0
-}
 
-#[tactic(auto, unfolding(crate::specs::Channel::logic_fault))]
-fn logic_fault(logic: Logic, before: Filter, after: Filter, left: u16) -> bool
-    ensures { result ≡ logic_fault logic before after left }
-{
-    if logic.edge {
-        return pulse_now(logic, before, after, left) > 0;
+    #[tactic(auto, unfolding(crate::specs::Channel::left_after))]
+    fn left_after(self) -> u16
+        ensures { result ≡ left_after self.logic self.before self.after self.left }
+    {
+        if self.logic.edge {
+            return self.pulse_now().saturating_sub(1);
+        }
+        0
     }
-    after.filtered
+
+    #[tactic(auto, unfolding(crate::specs::Channel::logic_fault))]
+    fn fault(self) -> bool
+        ensures { result ≡ logic_fault self.logic self.before self.after self.left }
+    {
+        if self.logic.edge {
+            return self.pulse_now() > 0;
+        }
+        self.after.filtered
+    }
 }
 
 // The channel's fault on the tick that leads from one state to the next.
@@ -137,8 +154,13 @@ fn logic_fault(logic: Logic, before: Filter, after: Filter, left: u16) -> bool
 fn fault_bit(group: Group, before: Channel, after: Channel) -> bool
     ensures { result ≡ fault_bit group before after }
 {
-    let logic = logic_fault(group.logic, before.logic, after.logic, before.left);
-    fault_by(group.input, after.analog.filtered, logic)
+    let tick = LogicTick {
+        logic: group.logic,
+        before: before.logic,
+        after: after.logic,
+        left: before.left,
+    };
+    fault_by(group.input, after.analog.filtered, tick.fault())
 }
 
 // The channel's warning on the same tick.
