@@ -32,7 +32,8 @@ impl Channel {
         }
     }
 
-    // Channel k over n frames, with its two bits on the last of them.
+    // Channel k over n frames, with its two bits on the last of them. The number stands beside the frames, and is
+    // not counted from their bytes: the promise speaks of any n, and of a frame past the end as one with no byte.
     pub fn run(self, group: Group, frames: &[u8], n: usize, k: usize) -> Ran
         ensures { result ≡ ran_over group frames.now k self n }
     {

@@ -5,10 +5,12 @@ use image::Settings;
 use machine::State;
 use records::Refusal;
 
-// After an engine tick: the bank and the engine's state, with what the detectors, the engine and the
-// pins show.
+// Under its settings and on its table: the bank and the engine's state after an engine tick, with what the
+// detectors, the engine and the pins show.
 #[derive(Clone, Copy)]
-pub(crate) struct Board {
+pub(crate) struct Board<'a> {
+    settings: Settings,
+    table: &'a [u8],
     bank: Bank,
     state: State,
     pub words: Words,
@@ -16,38 +18,36 @@ pub(crate) struct Board {
     pub pins: u16,
 }
 
-// Before the first tick: what shows at the engine's start, with no fault and no warning.
-pub(crate) fn start(settings: Settings, table: &[u8]) -> Result<Board, Refusal> {
-    let state = engine::start();
-    let shown = engine::show::<Table>(table, state)?;
-    Ok(Board {
-        bank: detectors::start(),
-        state,
-        words: Words::default(),
-        shown,
-        pins: pins::pins(settings, shown.outputs)?,
-    })
-}
+impl<'a> Board<'a> {
+    // Before the first tick: what shows at the engine's start, with no fault and no warning.
+    pub(crate) fn start(settings: Settings, table: &'a [u8]) -> Result<Board<'a>, Refusal> {
+        let state = engine::start();
+        let shown = engine::show::<Table>(table, state)?;
+        Ok(Board {
+            settings,
+            table,
+            bank: detectors::start(),
+            state,
+            words: Words::default(),
+            shown,
+            pins: pins::pins(settings, shown.outputs)?,
+        })
+    }
 
-impl Board {
     // After one more engine tick, whose faults the engine is given. The first refusal ends it, and nothing
     // is asked of those behind it.
-    pub(crate) fn tick(
-        self,
-        settings: Settings,
-        table: &[u8],
-        frames: &[u8],
-    ) -> Result<Board, Refusal> {
-        let detection = detectors::engine_tick(settings, self.bank, frames);
+    pub(crate) fn tick(self, frames: &[u8]) -> Result<Board<'a>, Refusal> {
+        let detection = detectors::engine_tick(self.settings, self.bank, frames);
         let words = detection.words?;
         let mut state = self.state;
-        let shown = engine::tick::<Table>(table, &mut state, words.faults)?;
+        let shown = engine::tick::<Table>(self.table, &mut state, words.faults)?;
         Ok(Board {
             bank: detection.bank,
             state,
             words,
             shown,
-            pins: pins::pins(settings, shown.outputs)?,
+            pins: pins::pins(self.settings, shown.outputs)?,
+            ..self
         })
     }
 }

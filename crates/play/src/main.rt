@@ -18,7 +18,6 @@ ghost use Rattle.io.specs.Counts.{IsPrefixLen};
 
 use board::Board;
 use console::print;
-use image::Settings;
 use records::{Numbered, Refusal};
 use std::io;
 use std::io::{Read, Write};
@@ -61,7 +60,8 @@ fn play(input: &mut impl Read, output: &mut impl Write) -> Result<(), Stop> {
     let length = receive_sheet(input, &mut sheet).unwrap_or(0);
     let mut table = [0u8; 756];
     let size = accepted(b" sheet", translate(&sheet[..length], &mut table))?;
-    play_ticks(input, output, settings, &table[..size])
+    let board = accepted(b" ticks", Board::start(settings, &table[..size]))?;
+    play_ticks(input, output, board)
 }
 
 // What came of a part of the input; a refusal ends the run.
@@ -97,10 +97,8 @@ fn translate(sheet: &[u8], table: &mut [u8]) -> Result<usize, Refusal>
 fn play_ticks(
     input: &mut impl Read,
     output: &mut impl Write,
-    settings: Settings,
-    table: &[u8],
+    mut board: Board<'_>,
 ) -> Result<(), Stop> {
-    let mut board = accepted(b" ticks", board::start(settings, table))?;
     print(output, start_line(board))?;
     for tick in 0..u64::MAX {
         let mut frames = [0u8; 220];
@@ -108,19 +106,18 @@ fn play_ticks(
             Ok(0) => break,
             received => received.unwrap_or(0),
         };
-        let next = board.tick(settings, table, &frames[..count]);
-        board = accepted(b" ticks", next)?;
+        board = accepted(b" ticks", board.tick(&frames[..count]))?;
         print(output, tick_line(tick + 1, board))?;
     }
     Ok(())
 }
 
-fn start_line(board: Board) -> Line {
+fn start_line(board: Board<'_>) -> Line {
     let line = text::empty().word(b"start").item(board.shown.step as u64);
     word_item(word_item(line, board.shown.outputs), board.pins).word(b"\n")
 }
 
-fn tick_line(tick: u64, board: Board) -> Line {
+fn tick_line(tick: u64, board: Board<'_>) -> Line {
     let line = text::empty().decimal(tick).item(board.shown.step as u64);
     let line = word_item(word_item(line, board.shown.outputs), board.words.faults);
     word_item(word_item(line, board.words.warnings), board.pins).word(b"\n")
