@@ -58,7 +58,7 @@ pub fn print<W: Write>(output: &mut W, line: Line) -> io::Result<usize>
 }
 
 // "refused NUMBER PLACE"; where the input has several parts, `part` is a space and the name of one, and
-// stands after the word.
+// stands after the word. Number and place apart: a `Refusal` has no number but those of the list.
 #[tactic(auto, unfolding(crate::specs::Refusal::refusal_line))]
 pub fn refusal(part: &[u8], number: u8, place: usize) -> Line
     ensures { result ≡ refusal_line part.now number place }

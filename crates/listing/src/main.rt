@@ -41,6 +41,7 @@ fn heading(cells: u8) -> Line {
 }
 
 fn print_cells(output: &mut impl Write, table: &[u8], cells: u8) -> io::Result<()> {
+    // By number: the bytes hold no slice of cells.
     for k in 0..cells {
         print(output, cell_line(k, tables::cell_at(table, k)))?;
     }

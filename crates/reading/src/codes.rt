@@ -1,4 +1,4 @@
-// From a code to its meaning.
+// From a code to its meaning: constant tables, a form of the paper. Two codes may mean the same, and some mean nothing.
 ghost use Rattle.std.specs.Prelude.{◌≤◌, ◌^◌, ◌≡◌, length, get_or};
 ghost use Rattle.records.specs.Bits.{bits};
 ghost use Rattle.image.specs.Reading.{input_of};

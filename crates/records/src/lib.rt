@@ -57,7 +57,7 @@ pub fn ensure<K: Numbered>(holds: bool, kind: K, place: usize) -> Result<(), Ref
     }
 }
 
-// A number of the paper's list with its place, as C and the programs' lines have it.
+// A number of the paper's list with its place, as C and the programs' lines have it: C packs the number, so it is one here.
 #[derive(Clone, Copy)]
 pub struct Verdict {
     pub number: u8,

@@ -29,12 +29,7 @@ fn filter_from(fields: &mut Fields<'_>) -> Filter {
 
 // Whether the bank is that of the next hundred bytes.
 pub(crate) fn is_bank(bank: Bank, expected: &mut Fields<'_>) -> bool {
-    for channel in &bank.channels {
-        if !is_channel(channel, expected) {
-            return false;
-        }
-    }
-    true
+    bank.channels.iter().all(|channel| is_channel(channel, expected))
 }
 
 fn is_channel(channel: &Channel, expected: &mut Fields<'_>) -> bool {

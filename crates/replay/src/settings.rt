@@ -1,4 +1,5 @@
-// Settings from 160 bytes, and compared with them.
+// Settings from 160 bytes, and compared with them. The kinds stand by their numbers in docs/CASES.md, which are no codes
+// of an image.
 ghost use Rattle.std.specs.Prelude.{◌<◌};
 
 use crate::fields::Fields;
@@ -96,12 +97,7 @@ fn output_from(fields: &mut Fields<'_>) -> Output {
 
 // Whether the settings are those of the next 160 bytes.
 pub(crate) fn is_settings(settings: Settings, expected: &mut Fields<'_>) -> bool {
-    for group in &settings.groups {
-        if !is_group(group, expected) {
-            return false;
-        }
-    }
-    true
+    settings.groups.iter().all(|group| is_group(group, expected))
 }
 
 fn is_group(group: &Group, expected: &mut Fields<'_>) -> bool {

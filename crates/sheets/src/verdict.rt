@@ -23,6 +23,7 @@ fn fields_verdict(sheet: &[u8]) -> Result<(), Refusal>
     ensures { verdict_of result ≡ fields_verdict sheet.now }
 {
     let steps = step_count(sheet);
+    // By number, here and below: the bytes hold no slice of steps.
     for k in 0..steps {
         let sound = step_fault(step_at(sheet, k)).is_ok();
         ensure(sound, Number::OutOfRange, k as usize)?;

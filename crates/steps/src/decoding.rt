@@ -6,7 +6,8 @@ ghost use Rattle.steps.specs.Steps.{step_at, step_count};
 use crate::Step;
 use words::{byte_at, word_at};
 
-// The step with a number. A byte past the sheet's end counts as 0.
+// The step with a number. A byte past the sheet's end counts as 0. A step has other fields at other offsets than a cell,
+// so each has a decoder of its own.
 #[tactic(auto, unfolding(crate::specs::Steps::step_at))]
 pub fn step_at(sheet: &[u8], k: u8) -> Step
     ensures { result ≡ step_at sheet.now k }

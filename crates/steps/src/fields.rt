@@ -1,4 +1,5 @@
 // The tests of a step's fields: each refusal has the kind of fault, and the field's offset in the step as place.
+// They stand in the order of the offsets, which a step and a cell do not share.
 ghost use Rattle.std.specs.Prelude.{◌≡◌};
 ghost use Rattle.records.specs.Answers.{verdict_by};
 ghost use Rattle.machine.specs.Answers.{fault_number};

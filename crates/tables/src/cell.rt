@@ -8,7 +8,8 @@ use machine::Node;
 use records::{Number, Refusal, ensure};
 use words::{byte_at, copy, word_at};
 
-// The cell with a number. A byte past the table's end counts as 0.
+// The cell with a number. A byte past the table's end counts as 0. A cell has other fields at other offsets than a step,
+// so each has a decoder of its own.
 #[tactic(auto, unfolding(crate::specs::Tables::cell_at))]
 pub fn cell_at(table: &[u8], k: u8) -> Node
     ensures { result ≡ cell_at table.now k }

@@ -28,6 +28,7 @@ pub fn table_verdict(table: &[u8]) -> Result<(), Refusal>
 {
     ensure(is_table(table), Number::WrongLength, 0)?;
     let cells = (table.len() / 12) as u8;
+    // By number: the bytes hold no slice of cells.
     for k in 0..cells {
         sound_cell(table, k)?;
     }

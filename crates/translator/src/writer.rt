@@ -49,6 +49,7 @@ impl<'a> Accepted<'a> {
     {
         let steps = step_count(self.sheet);
         let mut first = 0;
+        // By number: the bytes hold no slice of steps.
         for i in 0..steps {
             let cells = cells_of(self.sheet, i);
             self.write_step(i, first, cells, table);

@@ -6,7 +6,7 @@ use records::{Refusal, Verdict};
 use std::io;
 use std::io::Write;
 
-// NAME NUMBER PLACE, then the items of the answer.
+// NAME NUMBER PLACE, then the items of the answer, which differ by call: so the verdict is passed apart.
 pub(crate) fn print_answer(
     output: &mut impl Write,
     name: &str,
