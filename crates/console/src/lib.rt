@@ -9,10 +9,12 @@
 ghost use Rattle.std.specs.Prelude.{◌≡◌, ◌<◌, IfOk, OnErr, OnOk, length, take};
 ghost use Rattle.std.specs.Io.KnownBytes.{Appends, Consumes, IsAtEnd};
 ghost use Rattle.io.specs.Counts.{IsPrefixLen};
+ghost use Rattle.records.specs.Answers.{number_of};
 ghost use Rattle.text.specs.Text.{written};
 ghost use Rattle.console.specs.Refusal.{refusal_line};
 ghost use Rattle.console.specs.Streams.{AppendsPart, ConsumesPart};
 
+use records::{Numbered, Refusal};
 use std::io;
 use std::io::{ErrorKind, Read, Write};
 use text::Line;
@@ -65,4 +67,13 @@ pub fn refusal(part: &[u8], number: u8, place: usize) -> Line
 {
     let line = text::empty().word(b"refused").word(part);
     line.item(number as u64).item(place as u64).word(b"\n")
+}
+
+// Writes the line of a refusal.
+pub fn print_refusal<W: Write>(output: &mut W, part: &[u8], why: Refusal) -> io::Result<()>
+    ensures whole { OnOk result (Appends (W.contents output.old) (W.contents output.new) (written (refusal_line part.now (number_of why.kind) why.place))) }
+    ensures part { OnErr result (AppendsPart (W.contents output.old) (W.contents output.new) (written (refusal_line part.now (number_of why.kind) why.place))) }
+{
+    print(output, refusal(part, why.kind.number(), why.place))?;
+    Ok(())
 }

@@ -9,7 +9,6 @@
 
 use console::print;
 use machine::Node;
-use records::Numbered;
 use std::io;
 use std::io::Write;
 use text::Line;
@@ -26,13 +25,7 @@ fn main(rt: HostRuntime) -> io::Result<()> {
             print(output, heading(cells))?;
             print_cells(output, &table, cells)
         }
-        Err(refusal) => {
-            print(
-                output,
-                console::refusal(b"", refusal.kind.number(), refusal.place),
-            )?;
-            Ok(())
-        }
+        Err(refusal) => console::print_refusal(output, b"", refusal),
     }
 }
 

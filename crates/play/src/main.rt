@@ -18,7 +18,7 @@ ghost use Rattle.io.specs.Counts.{IsPrefixLen};
 
 use board::Board;
 use console::print;
-use records::{Numbered, Refusal};
+use records::Refusal;
 use std::io;
 use std::io::{Read, Write};
 use text::Line;
@@ -41,9 +41,7 @@ fn main(rt: HostRuntime) -> io::Result<()> {
     match play(&mut rt.stdin(), &mut rt.stdout()) {
         Ok(()) => Ok(()),
         Err(Stop::Refused(part, refusal)) => {
-            let line = console::refusal(part, refusal.kind.number(), refusal.place);
-            print(&mut rt.stdout(), line)?;
-            Ok(())
+            console::print_refusal(&mut rt.stdout(), part, refusal)
         }
         Err(Stop::Unprinted(error)) => Err(error),
     }

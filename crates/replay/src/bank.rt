@@ -29,7 +29,9 @@ fn filter_from(fields: &mut Fields<'_>) -> Filter {
 
 // Whether the bank is that of the next hundred bytes.
 pub(crate) fn is_bank(bank: Bank, expected: &mut Fields<'_>) -> bool {
-    bank.channels.iter().all(|channel| is_channel(channel, expected))
+    bank.channels
+        .iter()
+        .all(|channel| is_channel(channel, expected))
 }
 
 fn is_channel(channel: &Channel, expected: &mut Fields<'_>) -> bool {

@@ -97,7 +97,10 @@ fn output_from(fields: &mut Fields<'_>) -> Output {
 
 // Whether the settings are those of the next 160 bytes.
 pub(crate) fn is_settings(settings: Settings, expected: &mut Fields<'_>) -> bool {
-    settings.groups.iter().all(|group| is_group(group, expected))
+    settings
+        .groups
+        .iter()
+        .all(|group| is_group(group, expected))
 }
 
 fn is_group(group: &Group, expected: &mut Fields<'_>) -> bool {

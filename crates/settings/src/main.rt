@@ -12,7 +12,6 @@ mod names;
 use console::print;
 use image::{Group, Logic, Output, Settings, Threshold};
 use names::{CHANNELS, FAULT_TYPES, INPUTS, PULLS, SOURCES};
-use records::Numbered;
 use std::io;
 use std::io::Write;
 use text::Line;
@@ -25,13 +24,7 @@ fn main(rt: HostRuntime) -> io::Result<()> {
     let output = &mut rt.stdout();
     match reading::read(&buffer[..count]) {
         Ok(settings) => print_groups(output, &settings),
-        Err(refusal) => {
-            print(
-                output,
-                console::refusal(b"", refusal.kind.number(), refusal.place),
-            )?;
-            Ok(())
-        }
+        Err(refusal) => console::print_refusal(output, b"", refusal),
     }
 }
 
