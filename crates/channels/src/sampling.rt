@@ -40,7 +40,6 @@ impl Channel {
         let mut before = self;
         let mut after = self;
         let mut rest = frames;
-        // So many frames, also past the end of the bytes, where each counts as 0.
         for _ in 0..n {
             let (frame, others) = rest.split_at(rest.len().min(11));
             before = after;
