@@ -1,4 +1,4 @@
-// A byte's fields, taken apart and put together by shifts and masks.
+// A byte's fields, taken apart and put together by shifts and masks (a form of the paper).
 //
 // Every function is total: its definition in `records` gives a value for every argument of its type.
 #![tactic(auto)]

@@ -6,7 +6,7 @@ mod frame;
 mod sampling;
 
 // "All state starts false and zero", as the default has it.
-#[derive(Clone, Copy, Default)]
+#[derive(Clone, Copy, PartialEq, Eq, Default)]
 pub struct Channel {
     pub over: bool,
     pub under: bool,
@@ -15,7 +15,7 @@ pub struct Channel {
     pub left: u16,
 }
 
-#[derive(Clone, Copy, Default)]
+#[derive(Clone, Copy, PartialEq, Eq, Default)]
 pub struct Filter {
     pub filtered: bool,
     pub count: u16,

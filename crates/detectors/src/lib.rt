@@ -17,7 +17,7 @@ use records::{Refusal, Verdict};
 pub use ticks::{engine_tick, tick};
 
 // Ten channels, taken and returned by value.
-#[derive(Clone, Copy)]
+#[derive(Clone, Copy, PartialEq, Eq)]
 pub struct Bank {
     pub channels: [Channel; 10],
 }

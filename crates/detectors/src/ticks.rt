@@ -1,4 +1,5 @@
-// The calls on frames: every test first, then the ticks.
+// The calls on frames: every test first, then the ticks. Settings, bank and frames are passed side by side: so the paper
+// has them, and the bank is taken and returned by value.
 ghost use Rattle.std.specs.Prelude.{◌≤◌, ◌/◌, ◌≡◌, length};
 ghost use Rattle.records.specs.Answers.{verdict_of};
 ghost use Rattle.detectors.specs.Tick.{frames_verdict, levels_verdict, detected_over, ticked, engine_ticked, as_detected};

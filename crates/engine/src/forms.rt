@@ -17,7 +17,7 @@ impl Form for Sheet {
     fn standing(sheet: &[u8], k: u8) -> Result<Node, Refusal> {
         sheet_verdict(sheet)?;
         ensure(k < step_count(sheet), Number::Unreachable, 0)?;
-        Ok(Self::node_at(sheet, k))
+        Ok(sheets::node_at(sheet, k))
     }
 
     fn node_at(sheet: &[u8], k: u8) -> Node {

@@ -7,7 +7,8 @@ ghost use Rattle.image.specs.Reading.{zero_group_of, zero_settings};
 
 // The settings that an image means. One struct serves all ten groups, so that a setting that no
 // byte of its group can mean exists, and is refused. Delays and pulses are in µs. A variant's number is
-// its lowest code, but for `Input`, where the table of each kind of pin begins anew.
+// its lowest code, but for `Input`, where the table of each kind of pin begins anew. Groups go by number, in the paper's order
+// VP1 to VP4, VH, VX1 to VX5: an enum of the three kinds would be made of the same ranges, and be taken apart at once.
 #[derive(Clone, Copy)]
 pub struct Settings {
     pub groups: [Group; 10],
@@ -24,7 +25,7 @@ pub struct Group {
     pub output: Output,
 }
 
-#[derive(Clone, Copy, Default)]
+#[derive(Clone, Copy, PartialEq, Eq, Default)]
 pub struct Threshold {
     pub level: u8,
     pub hysteresis: u8,
@@ -76,7 +77,7 @@ pub enum Source {
     DrivenHigh,
 }
 
-#[derive(Clone, Copy, Default)]
+#[derive(Clone, Copy, PartialEq, Eq, Default)]
 pub enum Pull {
     #[default]
     Unpulled = 0,
@@ -96,6 +97,13 @@ pub enum Pull {
 pub const TIMES: [u16; 8] = [0, 5, 10, 20, 30, 50, 75, 100];
 
 pub const PULSES: [u16; 4] = [10, 100, 1000, 10000];
+
+pub const FAULT_TYPES: [FaultType; 4] = [
+    FaultType::Over,
+    FaultType::UnderOrOver,
+    FaultType::Under,
+    FaultType::Off,
+];
 
 // The settings of a refusal: zero in every field, code 0 of its group for a named kind.
 impl Default for Settings {

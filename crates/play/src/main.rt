@@ -13,7 +13,7 @@
 
 mod board;
 
-ghost use Rattle.std.specs.Prelude.{◌≡◌, IfOk};
+ghost use Rattle.std.specs.Prelude.{◌≡◌, IfOk, IfSome};
 ghost use Rattle.io.specs.Counts.{IsPrefixLen};
 
 use board::Board;
@@ -69,17 +69,18 @@ fn accepted<T>(part: &'static [u8], answer: Result<T, Refusal>) -> Result<T, Sto
     answer.map_err(|refusal| Stop::Refused(part, refusal))
 }
 
-// The length of the sheet that came; 0, which the translator refuses, where it is cut short.
-fn receive_sheet(input: &mut impl Read, sheet: &mut [u8]) -> io::Result<usize>
-    ensures { IfOk result (λ n. IsPrefixLen n sheet.new) }
+// The length of the sheet that came, if it came whole.
+fn receive_sheet(input: &mut impl Read, sheet: &mut [u8]) -> Option<usize>
+    ensures { IfSome result (λ n. IsPrefixLen n sheet.new) }
 {
     let mut announced = [0u8; 2];
-    if console::receive(input, &mut announced)? < 2 {
-        return Ok(0);
+    let came = console::receive(input, &mut announced).ok()?;
+    if came < 2 {
+        return None;
     }
     let length = sheet.len().min(u16::from_le_bytes(announced) as usize);
-    let count = console::receive(input, &mut sheet[..length])?;
-    Ok(if count < length { 0 } else { length })
+    let count = console::receive(input, &mut sheet[..length]).ok()?;
+    (count == length).then_some(length)
 }
 
 // How many bytes the table has that the sheet becomes.

@@ -4,14 +4,7 @@ ghost use Rattle.records.specs.Bits.{bits};
 ghost use Rattle.image.specs.Reading.{input_of};
 
 use bit_fields::field;
-use image::{FaultType, Input, Pull, Source};
-
-pub(crate) const FAULT_TYPES: [FaultType; 4] = [
-    FaultType::Over,
-    FaultType::UnderOrOver,
-    FaultType::Under,
-    FaultType::Off,
-];
+use image::{Input, Pull, Source};
 
 const RANGES: [Input; 4] = [
     Input::VpMid,

@@ -3,9 +3,9 @@ ghost use Rattle.std.specs.Prelude.{◌<◌, ◌≡◌, length};
 ghost use Rattle.records.specs.Answers.{verdict_of};
 ghost use Rattle.image.specs.Reading.{reserved_from, printed, byte_verdict, part_verdict, image_verdict, threshold_of, logic_of, output_of, group_of, settings_of, reading, as_reading};
 
-use crate::codes::{self, FAULT_TYPES, PULLS, SOURCES};
+use crate::codes::{self, PULLS, SOURCES};
 use bit_fields::field;
-use image::{Group, Logic, Output, PULSES, Settings, TIMES, Threshold};
+use image::{FAULT_TYPES, Group, Logic, Output, PULSES, Settings, TIMES, Threshold};
 use records::{Number, Refusal, ensure};
 use std::array;
 
@@ -79,7 +79,8 @@ fn read_groups(image: &[u8]) -> Settings
     }
 }
 
-// The one group reader: what the eight bytes of group k mean.
+// The one group reader: what the eight bytes of group k mean. They come as a part of the slice, a form of the paper, and
+// so not as an array.
 #[tactic(auto, using(records::proofs::BitLaws::bits_lt), unfolding(image::specs::Reading::group_of))]
 fn read_group(k: usize, part: &[u8]) -> Group
     requires { length part.now ≡ 8 }

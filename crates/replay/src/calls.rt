@@ -1,5 +1,5 @@
 // The calls by kind: settings, detectors and pins.
-use crate::bank::{bank_from, is_bank};
+use crate::bank::bank_from;
 use crate::fields::Fields;
 use crate::for_c::{is_shown_on, is_started_on, is_ticked_on};
 use crate::machine_calls::{is_shown, is_table, is_ticked, is_translated};
@@ -29,18 +29,16 @@ pub(crate) fn is_alike(kind: u8, given: &[u8], lent: &mut [u8], expected: &[u8])
 // The calls that are lent no buffer.
 fn is_lent_none(kind: u8, given: &[u8], expected: &mut Fields<'_>) -> bool {
     match kind {
-        3 => match detecting(given) {
-            Some((settings, bank, frames)) => {
-                is_detection(detectors::tick(settings, bank, frames), expected)
-            }
-            None => false,
-        },
-        4 => match detecting(given) {
-            Some((settings, bank, frames)) => {
-                is_detection(detectors::engine_tick(settings, bank, frames), expected)
-            }
-            None => false,
-        },
+        3 => is_detected(
+            |settings, bank, frames| detectors::tick(settings, bank, frames),
+            given,
+            expected,
+        ),
+        4 => is_detected(
+            |settings, bank, frames| detectors::engine_tick(settings, bank, frames),
+            given,
+            expected,
+        ),
         5 => is_driven(given, expected),
         7 => is_ticked::<Table>(given, expected),
         8 => is_ticked::<Sheet>(given, expected),
@@ -69,20 +67,24 @@ fn is_written(settings: Settings, lent: &mut [u8], expected: &mut Fields<'_>) ->
         & expected.ends_with(lent)
 }
 
-// Settings, a bank, and the frames after them.
-fn detecting(given: &[u8]) -> Option<(Settings, Bank, &[u8])> {
+// A call on settings, a bank, and the frames after them. A refusal has zero words.
+fn is_detected<F: FnOnce(Settings, Bank, &[u8]) -> Detection>(
+    call: F,
+    given: &[u8],
+    expected: &mut Fields<'_>,
+) -> bool
+    requires { F.IsAlwaysCallable call }
+{
     let fields = &mut Fields::new(given);
     let settings = settings_from(fields);
     let bank = bank_from(fields);
-    let frames = fields.rest()?;
-    Some((settings, bank, frames))
-}
-
-// A refusal has zero words.
-fn is_detection(detection: Detection, expected: &mut Fields<'_>) -> bool {
+    let Some(frames) = fields.rest() else {
+        return false;
+    };
+    let detection = call(settings, bank, frames);
     let detected = Detected::from(detection);
     expected.has_verdict(detection.words)
-        & is_bank(detected.bank, expected)
+        & (detected.bank == bank_from(expected))
         & (detected.faults == expected.word())
         & (detected.warnings == expected.word())
         & expected.ends_with(&[])
@@ -100,6 +102,6 @@ fn is_driven(given: &[u8], expected: &mut Fields<'_>) -> bool {
 
 fn is_started(expected: &mut Fields<'_>) -> bool {
     expected.has_bytes(&blank_image::blank())
-        & is_bank(detectors::start(), expected)
+        & (detectors::start() == bank_from(expected))
         & expected.ends_with(&state_bytes(engine::start()))
 }

@@ -1,27 +1,23 @@
 // The fields of a part of a case, one after the other.
 use records::{Refusal, Verdict};
 
-// A byte past the end counts as 0, and is remembered as missing.
+// What is left of the part. A byte past its end counts as 0, and then nothing is left, not even no byte.
 #[derive(Drop)]
 pub(crate) struct Fields<'a> {
-    rest: &'a [u8],
-    missing: bool,
+    rest: Option<&'a [u8]>,
 }
 
 impl<'a> Fields<'a> {
     pub(crate) fn new(bytes: &'a [u8]) -> Fields<'a> {
-        Fields {
-            rest: bytes,
-            missing: false,
-        }
+        Fields { rest: Some(bytes) }
     }
 
     pub(crate) fn byte(&mut self) -> u8 {
-        let Some((first, rest)) = self.rest.split_first() else {
-            self.missing = true;
+        let Some((first, rest)) = self.rest.and_then(|rest| rest.split_first()) else {
+            self.rest = None;
             return 0;
         };
-        self.rest = rest;
+        self.rest = Some(rest);
         *first
     }
 
@@ -34,9 +30,8 @@ impl<'a> Fields<'a> {
         self.byte() == 1
     }
 
-    // What is left, unless a byte was missing.
     pub(crate) fn rest(&self) -> Option<&'a [u8]> {
-        if self.missing { None } else { Some(self.rest) }
+        self.rest
     }
 
     pub(crate) fn has_verdict<T: Copy>(&mut self, answer: Result<T, Refusal>) -> bool {
@@ -46,15 +41,11 @@ impl<'a> Fields<'a> {
 
     // Whether these bytes come next.
     pub(crate) fn has_bytes(&mut self, bytes: &[u8]) -> bool {
-        let mut alike = true;
-        for byte in bytes {
-            alike &= self.byte() == *byte;
-        }
-        alike
+        bytes.iter().all(|byte| self.byte() == *byte)
     }
 
     // Whether these bytes, and no others, are left.
     pub(crate) fn ends_with(&self, bytes: &[u8]) -> bool {
-        !self.missing && self.rest == bytes
+        self.rest.is_some_and(|rest| rest == bytes)
     }
 }

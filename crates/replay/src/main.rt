@@ -10,7 +10,7 @@ mod for_c;
 mod machine_calls;
 mod settings;
 
-ghost use Rattle.std.specs.Prelude.{◌≤◌, IfOk};
+ghost use Rattle.std.specs.Prelude.{◌≤◌};
 
 use console::print;
 use std::io;

@@ -1,17 +1,10 @@
-// Settings from 160 bytes, and compared with them. The kinds stand by their numbers in docs/CASES.md, which are no codes
-// of an image.
+// Settings from 160 bytes, and compared with them. Kinds go by their numbers in docs/CASES.md: of inputs and pull-ups these
+// are no codes of an image, and of sources it has only those that are printed.
 ghost use Rattle.std.specs.Prelude.{◌<◌};
 
 use crate::fields::Fields;
-use image::{FaultType, Group, Input, Logic, Output, Pull, Settings, Source, Threshold};
+use image::{FAULT_TYPES, Group, Input, Logic, Output, Pull, Settings, Source, Threshold};
 use std::array;
-
-const FAULT_TYPES: [FaultType; 4] = [
-    FaultType::Over,
-    FaultType::UnderOrOver,
-    FaultType::Under,
-    FaultType::Off,
-];
 
 const INPUTS: [Input; 9] = [
     Input::VpMid,
@@ -103,32 +96,14 @@ pub(crate) fn is_settings(settings: Settings, expected: &mut Fields<'_>) -> bool
         .all(|group| is_group(group, expected))
 }
 
+// Kinds by their numbers, which do not begin anew past the last as those of given settings do.
 fn is_group(group: &Group, expected: &mut Fields<'_>) -> bool {
-    is_threshold(group.over, expected)
-        & is_threshold(group.under, expected)
+    (group.over == threshold_from(expected))
+        & (group.under == threshold_from(expected))
         & (group.delay == expected.word())
         & (group.faults as u8 == expected.byte())
         & (group.input as u8 == expected.byte())
-        & is_logic(group.logic, expected)
+        & (group.logic == logic_from(expected))
         & (group.output.source as u8 == expected.byte())
-        & is_pull(group.output.pull, expected.byte())
-}
-
-// A pull-up is numbered by its place in the list, and not by its code.
-fn is_pull(pull: Pull, number: u8) -> bool {
-    PULLS
-        .iter()
-        .position(|listed| *listed as u8 == pull as u8)
-        .is_some_and(|place| place == number as usize)
-}
-
-fn is_threshold(threshold: Threshold, expected: &mut Fields<'_>) -> bool {
-    (threshold.level == expected.byte()) & (threshold.hysteresis == expected.byte())
-}
-
-fn is_logic(logic: Logic, expected: &mut Fields<'_>) -> bool {
-    (logic.invert == expected.flag())
-        & (logic.edge == expected.flag())
-        & (logic.pulse == expected.word())
-        & (logic.delay == expected.word())
+        & (PULLS.get(expected.byte() as usize) == Some(&group.output.pull))
 }

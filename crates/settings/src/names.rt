@@ -1,4 +1,4 @@
-// What a line calls a channel, and each named kind by its number. The codes 12 and 13 of a pull-up have no name.
+// Lists, each of its own length: what a line calls a channel, and each named kind by its number. The codes 12 and 13 of a pull-up have no name.
 pub(crate) const CHANNELS: [&[u8]; 10] = [
     b"VP1", b"VP2", b"VP3", b"VP4", b"VH", b"VX1", b"VX2", b"VX3", b"VX4", b"VX5",
 ];

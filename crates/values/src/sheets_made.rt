@@ -1,6 +1,7 @@
 // Sheets of steps that wait and then jump to themselves.
 ghost use Rattle.std.specs.Prelude.{◌≤◌};
 
+// Buffers of a fixed size, here and below: no program here takes memory from a heap.
 const LONGEST: usize = 1040;
 
 // Sixty-five steps with the tags and the outputs 1, 2 and so on: the first six wait 40,000 ticks, the

@@ -8,7 +8,8 @@ use bit_fields::join;
 use image::{Group, Logic, Output, PULSES, TIMES};
 use records::{Number, Refusal, ensure};
 
-// The eight bytes of a group that is accepted.
+// The eight bytes of a group that is accepted. A look-up is taken apart by `let else` that returns the refusal, a form of
+// the paper.
 #[tactic(auto, using(crate::proofs::WritingLaws::encodes))]
 pub(crate) fn encode(k: usize, group: Group) -> Result<[u8; 8], Refusal>
     requires { k < 10 }

@@ -44,7 +44,7 @@ fn write_groups(settings: Settings, buffer: &mut [u8])
     }
 }
 
-// Stores a group's eight bytes into the part lent for it.
+// Stores a group's eight bytes into the part lent for it: a part of the slice, a form of the paper.
 fn write_group(bytes: [u8; 8], part: &mut [u8])
     requires { length part.old ≡ 8 }
     ensures { part.new ≡ bytes }
