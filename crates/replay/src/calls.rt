@@ -1,4 +1,5 @@
-// The calls by kind: settings, detectors and pins.
+// The calls by kind: settings, detectors and pins. What is given, lent and expected are passed side by side: the call takes
+// the first two, the comparison the last.
 use crate::bank::bank_from;
 use crate::fields::Fields;
 use crate::for_c::{is_shown_on, is_started_on, is_ticked_on};

@@ -33,6 +33,7 @@ enum Outcome {
 fn main(rt: HostRuntime) -> io::Result<()> {
     let mut alike = 0;
     let mut different = 0;
+    // Counted, since a loop has to end and the number is printed.
     for number in 0..u64::MAX {
         let outcome = next_case(&mut rt.stdin());
         tell(&mut rt.stdout(), number, outcome, different)?;

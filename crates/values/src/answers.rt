@@ -1,4 +1,4 @@
-// The lines.
+// The lines. Output and name are passed apart: all lines go to one output, and each has a name of its own.
 use console::print;
 use engine::{Shown, Ticked};
 use machine::State;

@@ -2,7 +2,7 @@
 //
 // A line for each call: what was tried, then NUMBER PLACE, and after them the cells, or the outputs
 // and the step, or the words, or the pins. In an order's lines each call has all the faults of the
-// next, and one more that is tested before them.
+// next, and one more that is tested before them. Buffers are of a fixed size: no program here takes memory from a heap.
 #![tactic(auto)]
 
 mod answers;

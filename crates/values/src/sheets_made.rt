@@ -1,26 +1,25 @@
 // Sheets of steps that wait and then jump to themselves.
-ghost use Rattle.std.specs.Prelude.{◌≤◌};
+ghost use Rattle.std.specs.Prelude.{◌≡◌, length};
 
-// Buffers of a fixed size, here and below: no program here takes memory from a heap.
 const LONGEST: usize = 1040;
 
 // Sixty-five steps with the tags and the outputs 1, 2 and so on: the first six wait 40,000 ticks, the
 // rest one.
 pub(crate) fn waits() -> [u8; LONGEST] {
     let mut sheet = [0u8; LONGEST];
-    for k in 0..65 {
-        write_step(&mut sheet, k, if k < 6 { 40000 } else { 1 });
+    for (k, step) in sheet.chunks_exact_mut(16).enumerate() {
+        write_step(step, k, if k < 6 { 40000 } else { 1 });
     }
     sheet
 }
 
-fn write_step(sheet: &mut [u8; LONGEST], k: usize, timeout: u16)
-    requires { k ≤ 64 }
+fn write_step(step: &mut [u8], k: usize, timeout: u16)
+    requires { length step.old ≡ 16 }
 {
-    let tag = (k + 1) as u8;
+    let tag = (k % 255 + 1) as u8;
     let [low, high] = timeout.to_le_bytes();
-    let step = [tag, 0, tag, 0, 0, 0, 0, 0, 0, 0, 0, 0, low, high, tag, 0];
-    sheet[16 * k..16 * k + 16].copy_from_slice(&step);
+    let bytes = [tag, 0, tag, 0, 0, 0, 0, 0, 0, 0, 0, 0, low, high, tag, 0];
+    step.copy_from_slice(&bytes);
 }
 
 // The same with a fault of each kind: outputs above 1023 in step 2, the tag of step 3 in step 4, and a fault
