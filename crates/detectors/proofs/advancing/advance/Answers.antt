@@ -27,11 +27,13 @@ use Rattle.detectors.proofs.advancing.advance.Goals as goal
 -- the run is that of channel k, the next of both arrays
 ran : (settings : Settings) (frames : List ℕ) (bank : Bank) (n k : ℕ) {rest : List Group} {left : List Channel} {group : Group} {channel : Channel} (others : List Group) (behind : List Channel)
     {made : Ran} → rest ≡ drop k settings.groups → left ≡ drop k bank.channels → (rest ≡ group ∷ others) × (left ≡ channel ∷ behind) → made ≡ ran_over group frames k channel n
-    → made ≡ ran_at settings frames bank n k
-ran settings frames bank n k others behind groups channels next is =
-    is
-    ∙ ap₂ (λ (group : Group) (channel : Channel). ran_over group frames k channel n) (element_is k settings.groups groups _ others next.0 (zero_group k))
-    (element_is k bank.channels channels _ behind next.1 start_channel)
+    → (k < length bank.channels) × (made ≡ ran_at settings frames bank n k)
+ran settings frames bank n k others behind groups channels next is = (
+  element_left k bank.channels channels _ behind next.1,
+  is
+      ∙ ap₂ (λ (group : Group) (channel : Channel). ran_over group frames k channel n) (element_is k settings.groups groups _ others next.0 (zero_group k))
+      (element_is k bank.channels channels _ behind next.1 start_channel),
+)
 
 pub loop-k-init : goal.loop-k-init
 unfolding each word_of
@@ -54,9 +56,8 @@ overflow_add-words g c =
     let so = l.invariant in
     let next = c.in-Some.ensures.steps in
     let k = l.k-iterator.count in
-    let below : k < length a.bank.channels = element_left k a.bank.channels so.left c.in-Some.channel.now c.next.new.self.iter.b.rest.now next.0.1 in
-    let is = ran a.settings a.frames.now a.bank g.row.N k c.next.new.self.iter.a.rest.now c.next.new.self.iter.b.rest.now so.groups so.left next.0 (rw next.1 at c.run-ran.ensures) in
-    record { fits = added_fits _ k _ _ _ so.faults (rw next.1 at c.bit.ensures) (ap (λ (r : Ran). r.fault) is) (omega (arith, below, ten_channels a.bank _ c.well_formed.1.0)) }
+    let told = ran a.settings a.frames.now a.bank g.row.N k c.next.new.self.iter.a.rest.now c.next.new.self.iter.b.rest.now so.groups so.left next.0 (rw next.1 at c.run-ran.ensures) in
+    record { fits = added_fits _ k _ _ _ so.faults (rw next.1 at c.bit.ensures) (ap (λ (r : Ran). r.fault) told.1) (omega (arith, told.0, ten_channels a.bank _ c.well_formed.1.0)) }
 
 pub overflow_add-words-in-loop-k : goal.overflow_add-words-in-loop-k
 overflow_add-words-in-loop-k g c =
@@ -65,9 +66,8 @@ overflow_add-words-in-loop-k g c =
     let so = l.invariant in
     let next = c.in-Some.ensures.steps in
     let k = l.k-iterator.count in
-    let below : k < length a.bank.channels = element_left k a.bank.channels so.left c.in-Some.channel.now c.next.new.self.iter.b.rest.now next.0.1 in
-    let is = ran a.settings a.frames.now a.bank g.row.N k c.next.new.self.iter.a.rest.now c.next.new.self.iter.b.rest.now so.groups so.left next.0 (rw next.1 at c.run-ran.ensures) in
-    record { fits = added_fits _ k _ _ _ so.warnings (rw next.1 at c.bit-in-loop-k.ensures) (ap (λ (r : Ran). r.warning) is) (omega (arith, below, ten_channels a.bank _ c.well_formed.1.0)) }
+    let told = ran a.settings a.frames.now a.bank g.row.N k c.next.new.self.iter.a.rest.now c.next.new.self.iter.b.rest.now so.groups so.left next.0 (rw next.1 at c.run-ran.ensures) in
+    record { fits = added_fits _ k _ _ _ so.warnings (rw next.1 at c.bit-in-loop-k.ensures) (ap (λ (r : Ran). r.warning) told.1) (omega (arith, told.0, ten_channels a.bank _ c.well_formed.1.0)) }
 
 pub loop-k-preserved : goal.loop-k-preserved
 loop-k-preserved g c =
@@ -77,15 +77,14 @@ loop-k-preserved g c =
     let next = c.in-Some.ensures.steps in
     let k = l.k-iterator.count in
     let ten = ten_channels a.bank _ c.well_formed.1.0 in
-    let below : k < length a.bank.channels = element_left k a.bank.channels so.left c.in-Some.channel.now c.next.new.self.iter.b.rest.now next.0.1 in
-    let is = ran a.settings a.frames.now a.bank g.row.N k c.next.new.self.iter.a.rest.now c.next.new.self.iter.b.rest.now so.groups so.left next.0 (rw next.1 at c.run-ran.ensures) in
+    let told = ran a.settings a.frames.now a.bank g.row.N k c.next.new.self.iter.a.rest.now c.next.new.self.iter.b.rest.now so.groups so.left next.0 (rw next.1 at c.run-ran.ensures) in
     rw (next.2, next.1) (record {
-      within = omega (arith, below, ten);
+      within = omega (arith, told.0, ten);
       groups = elements_left k a.settings.groups so.groups c.in-Some.group.now c.next.new.self.iter.a.rest.now next.0.0;
       left = elements_left k a.bank.channels so.left c.in-Some.channel.now c.next.new.self.iter.b.rest.now next.0.1;
-      channels = filled_more _ _ _ k _ so.channels (ap (λ (r : Ran). r.channel) is) below;
-      faults = added_more _ k _ _ _ so.faults (rw next.1 at c.bit.ensures) (ap (λ (r : Ran). r.fault) is) (omega (arith, below, ten));
-      warnings = added_more _ k _ _ _ so.warnings (rw next.1 at c.bit-in-loop-k.ensures) (ap (λ (r : Ran). r.warning) is) (omega (arith, below, ten));
+      channels = filled_more _ _ _ k _ so.channels (ap (λ (r : Ran). r.channel) told.1) told.0;
+      faults = added_more _ k _ _ _ so.faults (rw next.1 at c.bit.ensures) (ap (λ (r : Ran). r.fault) told.1) (omega (arith, told.0, ten));
+      warnings = added_more _ k _ _ _ so.warnings (rw next.1 at c.bit-in-loop-k.ensures) (ap (λ (r : Ran). r.warning) told.1) (omega (arith, told.0, ten));
     })
 
 pub returns : goal.returns
