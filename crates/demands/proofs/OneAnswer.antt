@@ -7,10 +7,10 @@ use lib.Dec.{eqb}
 use lib.ListN.{length, get_or}
 use native.Mathlib.Omega.{arith}
 use Rattle.std.specs.Prelude.{cond, Result, Ok, Err}
-use Rattle.records.specs.Answers.{verdict_by, verdict_of}
+use Rattle.records.specs.Answers.{number_of, verdict_by, verdict_of, tested}
 use Rattle.records.specs.declared.Number.{Number}
 use Rattle.records.specs.declared.Refusal.{Refusal}
-use Rattle.records.specs.Lists.{copied}
+use Rattle.records.specs.Lists.{copied, whole_records}
 use Rattle.records.specs.Bits.{bits, joined}
 use Rattle.records.specs.Words.{word_at, bit_word}
 use Rattle.records.specs.Verdicts.{accepted, refused, refused_unless, or_else}
@@ -18,7 +18,7 @@ use Rattle.records.specs.declared.Verdict.{Verdict}
 use Rattle.text.specs.Text.{empty_line, appended, written as line_text, decimal_text, hex_text}
 use Rattle.text.specs.declared.Line.{Line}
 use Rattle.console.specs.Refusal.{refusal_line}
-use Rattle.image.specs.Reading.{reading, as_reading}
+use Rattle.image.specs.Reading.{reading, as_reading, zero_settings}
 use Rattle.image.specs.declared.Group.{Group}
 use Rattle.image.specs.declared.Settings.{Settings}
 use Rattle.writing.specs.Writing.{settings_verdict, write_verdict, written}
@@ -35,19 +35,20 @@ use Rattle.pins.specs.Pins.{driven, as_driven}
 use Rattle.machine.specs.Fields.{elapsed_in_range}
 use Rattle.machine.specs.Machine.{start_state, exit_number, tick_at}
 use Rattle.machine.specs.Fields.{range_fault, jump_without_exit, exit_without_jump}
-use Rattle.machine.specs.Answers.{fault_number, as_standing}
+use Rattle.machine.specs.Answers.{Standing, fault_number, as_standing, as_stood}
 use Rattle.machine.specs.declared.Fault.{Fault}
 use Rattle.machine.specs.declared.Fault.TheVariants.{Range, JumpWithoutExit, ExitWithoutJump, LevelWithoutChannel}
 use Rattle.machine.specs.declared.Exit.{Exit}
 use Rattle.machine.specs.declared.Node.{Node}
 use Rattle.machine.specs.declared.State.{State}
+use Rattle.machine.specs.declared.Stood.{Stood}
 use Rattle.tables.specs.Tables.{cell_at, part_verdict, cell_written, cell_standing, table_verdict}
 use Rattle.steps.specs.Steps.{step_at, step_count, step_fault}
 use Rattle.steps.specs.declared.Step.{Step}
 use Rattle.sheets.specs.Sheets.{node_at, sheet_verdict}
 use Rattle.states.specs.States.{state_from, state_bytes, bytes_verdict}
-use Rattle.engine.specs.Engine.{Form, ticked as form_ticked, shown_at}
-use Rattle.engine.specs.Answers.{as_ticked}
+use Rattle.engine.specs.Engine.{Form, nodes_of, standing_at, ticked as form_ticked, shown_at}
+use Rattle.engine.specs.Answers.{as_ticked, shows}
 use Rattle.engine.specs.declared.Shown.{Shown}
 use Rattle.engine.specs.declared.Ticked.{Ticked}
 use Rattle.translator.specs.Answers.{as_translation}
@@ -77,6 +78,10 @@ settings_verdict_lem settings = one_answer (settings_verdict settings)
 pub write : (settings : Settings) (buffer : List ℕ) → OneAnswer (write_verdict settings buffer) × OneAnswer (written settings buffer)
 write settings buffer = (one_answer (write_verdict settings buffer), one_answer (written settings buffer))
 
+-- Settings::default
+pub zero : OneAnswer zero_settings
+zero = one_answer zero_settings
+
 pub blank : OneAnswer blank_image
 blank = one_answer blank_image
 
@@ -93,6 +98,10 @@ tick settings bank frame = one_answer (ticked settings bank frame)
 
 pub engine_tick : (settings : Settings) (bank : Bank) (frames : List ℕ) → OneAnswer (engine_ticked settings bank frames)
 engine_tick settings bank frames = one_answer (engine_ticked settings bank frames)
+
+-- Detected::from
+pub as_detected_lem : (detection : Detection) → OneAnswer (as_detected detection)
+as_detected_lem detection = one_answer (as_detected detection)
 
 pub pins : (settings : Settings) (outputs : ℕ) → OneAnswer (driven settings outputs)
 pins settings outputs = one_answer (driven settings outputs)
@@ -129,6 +138,10 @@ write_cell cell part = (one_answer (part_verdict part), one_answer (cell_written
 
 -- ---- machine and engine
 
+-- Fault::number
+pub fault_number_lem : (kind : Fault) → OneAnswer (fault_number kind)
+fault_number_lem kind = one_answer (fault_number kind)
+
 -- machine::start and engine::start
 pub start_state_lem : OneAnswer start_state
 start_state_lem = one_answer start_state
@@ -149,6 +162,21 @@ form_tick form bytes state word = one_answer (form_ticked form bytes state word)
 -- engine::show
 pub form_show : (form : Form) (bytes : List ℕ) (state : State) → OneAnswer (shown_at form bytes state)
 form_show form bytes state = one_answer (shown_at form bytes state)
+
+-- Shown::from
+pub shows_lem : (node : Node) → OneAnswer (shows node)
+shows_lem node = one_answer (shows node)
+
+-- Ticked::of
+pub as_ticked_lem : (state : State) (answer : Result Shown (Refusal Number)) → OneAnswer (as_ticked state answer)
+as_ticked_lem state answer = one_answer (as_ticked state answer)
+
+-- Form::standing, as `standing_once` reads it, and Form::node_at
+pub standing_at_lem : (form : Form) (bytes : List ℕ) (k : ℕ) → OneAnswer (standing_at form bytes k)
+standing_at_lem form bytes k = one_answer (standing_at form bytes k)
+
+pub nodes_of_lem : (form : Form) (bytes : List ℕ) (k : ℕ) → OneAnswer (nodes_of form bytes k)
+nodes_of_lem form bytes k = one_answer (nodes_of form bytes k)
 
 -- ---- states: their bytes
 
@@ -238,6 +266,19 @@ accept = one_answer accepted
 pub refuse : (number place : ℕ) → OneAnswer (refused number place)
 refuse number place = one_answer (refused number place)
 
+-- ensure: the answer itself, whatever the kinds
+pub ensure : {K : Type 0} (holds : Bool) (kind : K) (place : ℕ) → OneAnswer (tested holds kind place)
+ensure holds kind place = one_answer (tested holds kind place)
+
+-- Verdict::of
+pub verdict_by_lem : {A K : Type 0} (number : K → ℕ) (answer : Result A (Refusal K)) → OneAnswer (verdict_by number answer)
+verdict_by_lem number answer = one_answer (verdict_by number answer)
+
+-- Number::number
+pub number_of_lem : (kind : Number) → OneAnswer (number_of kind)
+number_of_lem kind = one_answer (number_of kind)
+
+-- a test behind others, and two verdicts in their order, as `?` joins them
 pub unless : (verdict : Verdict) (holds : Bool) (number place : ℕ) → OneAnswer (or_else verdict (refused_unless holds number place))
 unless verdict holds number place = one_answer (or_else verdict (refused_unless holds number place))
 
@@ -256,6 +297,9 @@ bit on k = one_answer (bit_word on k)
 -- the part
 pub copy : (bytes part : List ℕ) → OneAnswer (copied bytes part)
 copy bytes part = one_answer (copied bytes part)
+
+pub is_whole : (bytes : List ℕ) (width : ℕ) → OneAnswer (whole_records width bytes)
+is_whole bytes width = one_answer (whole_records width bytes)
 
 -- ---- text and console
 
@@ -316,17 +360,34 @@ standing_told : (node : Node) (answer : Result Node (Refusal Number)) → (as_st
 standing_told node (Ok stood) = refl
 standing_told node (Err refusal) = refl
 
--- tables::cell_standing
+-- standing at a node of either form
 pub standing_once : (node : Node) → OneResult (as_standing node)
 standing_once node = one_result (as_standing node) (λ r. r.verdict) (λ r. r.node) (standing_told node) (λ stood. refl)
+
+-- tables::cell_standing: the cell, and what its tests say
+pub stood_once : (one other : Stood) → as_stood one ≡ as_stood other → one ≡ other
+stood_once one other e =
+    ap₂ (λ (node : Node) (tested : Result (Unit {0}) (Refusal Number)). record { node = node; tested = tested })
+    (ap (λ (s : Standing). s.node) e)
+    (tests_once one.tested other.tested (ap (λ (s : Standing). s.verdict) e))
 
 shown_told : (state : State) (answer : Result Shown (Refusal Number)) → (as_ticked state answer).verdict ≡ verdict_of answer
 shown_told state (Ok shown) = refl
 shown_told state (Err refusal) = refl
 
--- tick and show of engine and of state_calls
+-- tick and show of engine and of state_calls, from one state
 pub shown_once : (state : State) → OneResult (as_ticked state)
 shown_once state = one_result (as_ticked state) (λ r. r.verdict) (λ r. record { outputs = r.outputs; step = r.step }) (shown_told state) (λ shown. refl)
+
+state_of : (state : State) (answer : Result Shown (Refusal Number)) → (as_ticked state answer).state ≡ state
+state_of state (Ok shown) = refl
+state_of state (Err refusal) = refl
+
+-- engine::tick: the lent state after it, and the answer
+pub tick_once : (after other : State) (one two : Result Shown (Refusal Number)) → as_ticked after one ≡ as_ticked other two → (after ≡ other) × (one ≡ two)
+tick_once after other one two e =
+    let states : after ≡ other = sym (state_of after one) ∙ ap (λ (t : Ticked). t.state) e ∙ state_of other two in
+    (states, shown_once other one two (ap (λ (s : State). as_ticked s one) (sym states) ∙ e))
 
 words_told : (bank : Bank) (answer : Result Words (Refusal Number)) → (detected_of bank answer).verdict ≡ verdict_of answer
 words_told bank (Ok words) = refl

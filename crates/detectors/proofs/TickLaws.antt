@@ -1,5 +1,5 @@
 -- Laws of ticks over a run of frames. Assumes nothing.
-use Prim.Native.Nat.{ℕ, zero, suc, ◌+◌, ◌-◌, ◌≤◌, ◌<◌}
+use Prim.Native.Nat.{ℕ, zero, suc, ◌+◌, ◌-◌, ◌*◌, ◌≤◌, ◌<◌}
 use mathlib.Core.Path.{◌≡◌, refl, ap, ap₂, ◌∙◌}
 use mathlib.Core.Bool.{Bool}
 use mathlib.Core.List.{List, ◌++◌}
@@ -7,6 +7,7 @@ use native.Mathlib.Nat.{zero-add, not-suc-le-zero}
 use native.Mathlib.Omega.{arith}
 use lib.Dec.{ltb}
 use lib.ListN.{length, get_or, drop}
+use lib.Seq.{get_or-take, get_or-drop}
 use Rattle.records.specs.Lists.{each}
 use Rattle.records.specs.Numbers.{bad_word}
 use Rattle.records.specs.Verdicts.{refused_unless}
@@ -32,11 +33,17 @@ use Rattle.channels.specs.declared.Ran.{Ran}
 abbrev pub levels_test : List ℕ → ℕ → Verdict
 levels_test frames i = refused_unless (levels_in_range frames i) bad_word 0
 
--- the same as the code makes it
-pub levels_read : (frames frame : List ℕ) (k : ℕ) {levels : ℕ} → frame ≡ frame_at frames k → levels ≡ get_or frame 10 0
+-- the level byte of frame i, in the run
+pub levels_read : (frames : List ℕ) (i : ℕ) → levels_in_range frames i ≡ ltb (get_or frames (11 * i + 10) 0) 32
+unfolding levels_in_range frame_at
+levels_read frames i =
+    ap (λ (levels : ℕ). ltb levels 32) (get_or-take 11 (drop (11 * i) frames) 10 0 (omega arith) ∙ get_or-drop (11 * i) frames 10 0)
+
+-- the same test as the code makes it, on the frame
+pub levels_tested : (frames frame : List ℕ) (k : ℕ) {levels : ℕ} → frame ≡ frame_at frames k → levels ≡ get_or frame 10 0
     → refused_unless (ltb levels 32) bad_word 0 ≡ levels_test frames k
 unfolding levels_in_range
-levels_read frames frame k is read = ap (λ (n : ℕ). refused_unless (ltb n 32) bad_word 0) (read ∙ ap (λ (l : List ℕ). get_or l 10 0) is)
+levels_tested frames frame k is read = ap (λ (n : ℕ). refused_unless (ltb n 32) bad_word 0) (read ∙ ap (λ (l : List ℕ). get_or l 10 0) is)
 
 -- ---- the bank: each channel goes by itself
 module _ (settings : Settings) (frames : List ℕ) (bank : Bank) where

@@ -30,7 +30,9 @@ impl Form for Table {
 
     #[tactic(auto, unfolding(crate::specs::Engine::standing, tables::specs::Tables::cell_standing))]
     fn standing(table: &[u8], k: u8) -> Result<Node, Refusal> {
-        cell_standing(table, k)
+        let stood = cell_standing(table, k);
+        stood.tested?;
+        Ok(stood.node)
     }
 
     fn node_at(table: &[u8], k: u8) -> Node {

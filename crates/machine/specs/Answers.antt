@@ -8,6 +8,7 @@ use Rattle.machine.specs.Fields.{range_fault, jump_without_exit, exit_without_ju
 use Rattle.machine.specs.declared.Fault.{Fault}
 use Rattle.machine.specs.declared.Fault.TheVariants.{Range, JumpWithoutExit, ExitWithoutJump, LevelWithoutChannel}
 use Rattle.machine.specs.declared.Node.{Node}
+use Rattle.machine.specs.declared.Stood.{Stood}
 
 -- the number of each kind of fault
 abbrev pub fault_number : Fault → ℕ
@@ -25,3 +26,7 @@ pub record Standing : Type 0 where
 abbrev pub as_standing : Node → Result Node (Refusal Number) → Standing
 as_standing node (Ok stood) = record { verdict = verdict_of (Ok stood); node = stood }
 as_standing node (Err refusal) = record { verdict = verdict_of {A = Node} (Err refusal); node = node }
+
+-- the same of an answer that gives the node whatever the tests say
+abbrev pub as_stood : Stood → Standing
+as_stood stood = record { verdict = verdict_of stood.tested; node = stood.node }

@@ -11,7 +11,7 @@ ghost use Rattle.machine.specs.Machine.{exit_number};
 ghost use Rattle.machine.specs.Answers.{fault_number};
 
 pub use moving::{elapsed_in_range, start, tick};
-use records::Numbered;
+use records::{Numbered, Refusal};
 
 // The kinds of fault that a field may have.
 #[derive(Clone, Copy, Debug, PartialEq, Eq)]
@@ -42,6 +42,13 @@ pub struct Node {
     pub timeout: u16,
     pub timeoutto: u8,
     pub step: u8,
+}
+
+// A node, and what the tests of standing at it say: it is given where they refuse too.
+#[derive(Clone, Copy)]
+pub struct Stood {
+    pub node: Node,
+    pub tested: Result<(), Refusal>,
 }
 
 // "Exit taken (1 byte: 1 fault, 2 sequence, 3 timeout)", and 0 where none is.

@@ -1,28 +1,23 @@
 -- Laws of reading: an image's tests and meaning, group by group. Assumes nothing.
-use Prim.Native.Nat.{ℕ, zero, suc, ◌+◌, ◌-◌, ◌*◌, ◌<◌, ◌≤◌}
-use mathlib.Core.Path.{◌≡◌, refl, ap, sym, subst, ◌∙◌}
+use Prim.Native.Nat.{ℕ, zero, suc, ◌+◌, ◌-◌, ◌*◌, ◌<◌}
+use mathlib.Core.Path.{◌≡◌, ap, sym, ◌∙◌}
 use mathlib.Core.Bool.{Bool, true, false, cond}
 use mathlib.Core.List.{List, [], ◌∷◌}
 use native.Mathlib.Omega.{arith}
 use borrow.Author.Tests.{eqb-true}
 use lib.Dec.{eqb}
-use lib.ListN.{length, get_or, take, drop}
-use mathlib.Core.Logic.{inl, inr}
-use lib.Seq.{get_or-take, get_or-drop, ext_get_or}
-use native.Mathlib.Nat.{zero-add}
-use denote.Param.Members.{Mut}
-use Rattle.std.specs.Fn.{Called}
-use Rattle.std.specs.Array.{IsFromFnResultFrom, IsFromFnResult}
-use Rattle.std.proofs.lemmas.Bool.{cases_lt}
+use lib.ListN.{length, get_or, take, drop, length-take, length-drop}
+use lib.Seq.{get_or-take, get_or-drop}
 use Rattle.records.specs.Lists.{each}
 use Rattle.records.specs.Numbers.{wrong_length}
 use Rattle.records.specs.Verdicts.{accepted, refused_unless, or_else, first_refusal}
 use Rattle.records.specs.declared.Verdict.{Verdict}
-use Rattle.records.proofs.ListLaws.{each_length, each_at, each_ext, each_record}
+use Rattle.records.proofs.ListLaws.{get_d_default, each_length, each_ext, each_record}
 use Rattle.records.proofs.VerdictLaws.{unless_zero, or_else_pass, or_else_hit, or_else_zero, first_cons, first_records}
 use Rattle.image.specs.Groups.{is_vh, is_vx, part}
-use Rattle.image.specs.Reading.{reserved_from, byte_verdict, part_verdict, address_verdict, image_verdict, group_of, settings_of}
+use Rattle.image.specs.Reading.{reserved_from, byte_verdict, part_verdict, address_verdict, image_verdict, group_of, zero_group, zero_settings}
 use Rattle.image.specs.declared.Group.{Group}
+use Rattle.image.specs.declared.Settings.{Settings}
 
 -- ---- the lowest reserved bit
 -- every number of the list is below n
@@ -40,8 +35,12 @@ either_below true x y n h e = h
 either_below false x y n h e = e
 
 -- the eight numbers, those of bytes 5 and 6 by the group
-abbrev reserved_table : ℕ → ℕ → List ℕ
+abbrev pub reserved_table : ℕ → ℕ → List ℕ
 reserved_table five six = 8 ∷ 5 ∷ 8 ∷ 5 ∷ 5 ∷ five ∷ six ∷ 7 ∷ []
+
+pub reserved_is : (k j : ℕ) → j < 8 → get_or (reserved_table (cond (is_vh k) 1 2) (cond (is_vx k) 7 0)) j 0 ≡ reserved_from k j
+unfolding reserved_from
+reserved_is k j h = get_d_default (reserved_table (cond (is_vh k) 1 2) (cond (is_vx k) 7 0)) j 0 8 h
 
 pub reserved_below : (k j : ℕ) → reserved_from k j < 9
 unfolding reserved_from
@@ -55,13 +54,17 @@ reserved_below k j =
 abbrev pub lent : List ℕ → ℕ → List ℕ
 lent image k = take (8 * k + 8 - 8 * k) (drop (8 * k) image)
 
-part_lent : (image : List ℕ) (k : ℕ) → lent image k ≡ part image k
+pub part_lent : (image : List ℕ) (k : ℕ) → lent image k ≡ part image k
 unfolding part
 part_lent image k =
     let eight : 8 * k + 8 - 8 * k ≡ 8 = omega arith in
     ap (λ (n : ℕ). take n (drop (8 * k) image)) eight
 
-part_at : (image : List ℕ) (k j : ℕ) → j < 8 → get_or (part image k) j 0 ≡ get_or image (8 * k + j) 0
+pub part_length : (image : List ℕ) (k : ℕ) → length image ≡ 80 → k < 10 → length (part image k) ≡ 8
+unfolding part
+part_length image k whole h = simp (length-take, length-drop) (omega arith)
+
+pub part_at : (image : List ℕ) (k j : ℕ) → j < 8 → get_or (part image k) j 0 ≡ get_or image (8 * k + j) 0
 unfolding part
 part_at image k j h = get_or-take 8 (drop (8 * k) image) j 0 h ∙ get_or-drop (8 * k) image j 0
 
@@ -83,10 +86,10 @@ part_addresses image k =
     ∙ ap (part_verdict k) (sym (part_lent image k))
 
 -- the length's test, then the tests of each group
-abbrev length_test : List ℕ → Verdict
+abbrev pub length_test : List ℕ → Verdict
 length_test image = refused_unless (eqb (length image) 80) wrong_length 0
 
-image_parts : (image : List ℕ) → image_verdict image ≡ or_else (length_test image) (first_refusal (each (group_test image) 0 10))
+pub image_parts : (image : List ℕ) → image_verdict image ≡ or_else (length_test image) (first_refusal (each (group_test image) 0 10))
 unfolding image_verdict
 image_parts image =
     first_cons _ _
@@ -106,30 +109,9 @@ accepted_whole image passed =
 
 -- ---- the meaning, group by group
 -- group k of an image
-abbrev group_at : List ℕ → ℕ → Group
+abbrev pub group_at : List ℕ → ℕ → Group
 group_at image k = group_of k (part image k)
 
--- ---- an array made by a closure that keeps what it captured: element k is what the rule says of k
-module _ {F B : Type 0} (g : Mut F (ℕ × Unit {0}) B) (rule : ℕ → B) (f : F) (n : ℕ)
-    (one : (k : ℕ) (y : B) (q : F) → k < n → Called g f (k, tt) y q → (y ≡ rule k) × (q ≡ f)) (ys : List B) where
-  made_from : (i m : ℕ) (p : F) → p ≡ f → i + m ≡ n → IsFromFnResultFrom g p ys i m → (k : ℕ) (d : B) → i ≤ k → k < n → get_or ys k d ≡ rule k
-  made_from i zero p same whole made k d h l = absurd (omega arith)
-  made_from i (suc m) p same whole made k d h l =
-      let y = made.1 in
-      let step = one i y made.0 (omega arith) (subst (λ (r : F). Called g r (i, tt) y made.0) same made.3) in
-      let here : i ≡ k → get_or ys k d ≡ rule k = λ e. ap (λ (j : ℕ). get_or ys j d) (sym e) ∙ made.2.1 d ∙ step.0 ∙ ap rule e in
-      let later : i < k → get_or ys k d ≡ rule k = λ e. made_from (i + 1) m made.0 step.1 (omega arith) made.4 k d (omega arith) l in
-      elim (cases_lt i k) [ inl e ↦ later e | inr e ↦ here (omega arith) ]
-
-  made_each : IsFromFnResult g f ys n → ys ≡ each rule 0 n
-  made_each made =
-      ext_get_or (rule 0) ys (each rule 0 n) (made.long ∙ sym (each_length rule 0 n))
-      (λ k h. made_from 0 n f refl (omega arith) made.each k (rule 0) (omega arith) (subst (λ (m : ℕ). k < m) made.long h) ∙ sym (each_at rule 0 n k (rule 0) (subst (λ (m : ℕ). k < m) made.long h) ∙ ap rule (zero-add k)))
-
-pub groups_made : {F : Type 0} (g : Mut F (ℕ × Unit {0}) Group) (image : List ℕ) (f : F)
-    → ((k : ℕ) (y : Group) (q : F) → k < 10 → Called g f (k, tt) y q → (y ≡ group_of k (lent image k)) × (q ≡ f))
-    → (made : List Group) → IsFromFnResult g f made 10 → record { groups = made } ≡ settings_of image
-unfolding settings_of
-groups_made g image f one made is =
-    ap (λ (l : List Group). record { groups = l })
-    (made_each g (λ k. group_of k (lent image k)) f 10 one made is ∙ each_ext _ (group_at image) 0 10 (λ k h. ap (group_of (0 + k)) (part_lent image (0 + k))))
+pub zero_ten : (settings : Settings) → settings ≡ zero_settings → length settings.groups ≡ 10
+unfolding zero_settings
+zero_ten settings is = ap (λ (s : Settings). length s.groups) is ∙ each_length zero_group 0 10

@@ -7,7 +7,6 @@ use crate::codes::{self, PULLS, SOURCES};
 use bit_fields::field;
 use image::{FAULT_TYPES, Group, Logic, Output, PULSES, Settings, TIMES, Threshold};
 use records::{Number, Refusal, ensure};
-use std::array;
 
 // Reads an image of eighty bytes. The lowest bad address is reported.
 #[tactic(auto, using(crate::proofs::ReadingLaws::accepted_whole), unfolding(image::specs::Reading::reading))]
@@ -74,9 +73,12 @@ fn read_groups(image: &[u8]) -> Settings
     requires { length image.now ≡ 80 }
     ensures { result ≡ settings_of image.now }
 {
-    Settings {
-        groups: array::from_fn(|k| read_group(k, &image[8 * k..8 * k + 8])),
+    let zero = Settings::default();
+    let mut groups = zero.groups;
+    for k in 0..10 {
+        groups[k] = read_group(k, &image[8 * k..8 * k + 8]);
     }
+    Settings { groups }
 }
 
 // The one group reader: what the eight bytes of group k mean. They come as a part of the slice, a form of the paper, and

@@ -22,7 +22,7 @@ pub fn recorded(image: &[u8], recording: &[u8]) -> Detection
     ensures { as_detected result ≡ recorded image.now recording.now }
 {
     match settings_of(image, recording) {
-        Ok(settings) => ticks::detect(settings, recording),
+        Ok(settings) => ticks::detect(&settings, recording),
         Err(refusal) => Detection {
             bank: detectors::start(),
             words: Err(refusal),

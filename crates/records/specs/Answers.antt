@@ -1,5 +1,5 @@
 -- A call answers its value, or why it is refused and where. Assumes nothing.
-use Rattle.std.specs.Prelude.{ℕ, Result, Ok, Err}
+use Rattle.std.specs.Prelude.{ℕ, Bool, cond, Result, Ok, Err}
 use Rattle.records.specs.Numbers.{wrong_length, reserved, unprinted, out_of_range, repeated_tag, unknown_tag, too_many_cells, unreachable, bad_word, no_room}
 use Rattle.records.specs.Verdicts.{accepted, refused}
 use Rattle.records.specs.declared.Verdict.{Verdict}
@@ -27,3 +27,7 @@ verdict_by number (Err refusal) = refused (number refusal.kind) refusal.place
 
 abbrev pub verdict_of : {A : Type 0} → Result A (Refusal Number) → Verdict
 verdict_of = verdict_by number_of
+
+-- what one test answers: why it is refused and where, unless it holds
+abbrev pub tested : {K : Type 0} → Bool → K → ℕ → Result (Unit {0}) (Refusal K)
+tested holds kind place = cond holds (Ok tt) (Err (record { kind = kind; place = place }))

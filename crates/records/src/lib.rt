@@ -6,7 +6,7 @@
 
 ghost use Rattle.std.specs.Prelude.{◌≡◌, ℕ};
 ghost use Rattle.records.specs.Verdicts.{accepted, refused, refused_unless};
-ghost use Rattle.records.specs.Answers.{number_of, verdict_by};
+ghost use Rattle.records.specs.Answers.{number_of, verdict_by, tested};
 
 // A kind that a number of a list stands for.
 pub trait Numbered: Copy {
@@ -48,7 +48,8 @@ pub struct Refusal<K = Number> {
 
 // The kind at the place, unless the test holds.
 pub fn ensure<K: Numbered>(holds: bool, kind: K, place: usize) -> Result<(), Refusal<K>>
-    ensures { verdict_by K.number result ≡ refused_unless holds (K.number kind) place }
+    ensures verdict { verdict_by K.number result ≡ refused_unless holds (K.number kind) place }
+    ensures whole { result ≡ tested holds kind place }
 {
     if holds {
         Ok(())

@@ -46,6 +46,6 @@ pub(crate) fn is_table(given: &[u8], expected: &mut Fields<'_>) -> bool {
         return false;
     };
     expected.has_verdict(tables::table_verdict(table))
-        & expected.has_verdict(tables::cell_standing(table, *cell))
+        & expected.has_verdict(tables::cell_standing(table, *cell).tested)
         & expected.ends_with(&[])
 }

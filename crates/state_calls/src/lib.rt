@@ -16,7 +16,7 @@ use records::{Number, Refusal, ensure};
 use states::{bytes_verdict, state_bytes, state_from};
 
 // The start's bytes into the eight that are lent, whatever stood there.
-#[tactic(auto, unfolding(crate::specs::StateCalls::start_verdict, crate::specs::StateCalls::start_written, states::specs::States::state_bytes))]
+#[tactic(auto, using(crate::proofs::StateCallLaws::start_written_lem), unfolding(crate::specs::StateCalls::start_verdict, crate::specs::StateCalls::start_written, states::specs::States::state_bytes))]
 pub fn start(state: &mut [u8]) -> Result<(), Refusal>
     ensures value { verdict_of result ≡ start_verdict state.old }
     ensures state_after { state.new ≡ start_written state.old }

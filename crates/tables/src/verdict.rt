@@ -1,28 +1,39 @@
 // The tests of one cell and of the whole table.
-ghost use Rattle.std.specs.Prelude.{◌≡◌, IfOk};
+ghost use Rattle.std.specs.Prelude.{◌≡◌, ◌∷◌, [], eqb, ltb};
 ghost use Rattle.records.specs.Answers.{verdict_of};
-ghost use Rattle.machine.specs.Answers.{as_standing};
-ghost use Rattle.tables.specs.Tables.{is_table, cell_at, fields_verdict, cell_standing, table_verdict};
+ghost use Rattle.records.specs.Numbers.{wrong_length, out_of_range, unreachable};
+ghost use Rattle.records.specs.Verdicts.{refused_unless, first_refusal};
+ghost use Rattle.machine.specs.Answers.{as_stood};
+ghost use Rattle.tables.specs.Tables.{is_table, cell_count, cell_fault, cell_standing, table_verdict};
 
 use crate::cell::cell_at;
 use crate::fields;
-use machine::Node;
+use machine::{Node, Stood};
 use records::{Number, Refusal, ensure};
 use words::is_whole;
 
-// A cell at which the engine may stand: the length, the cell's number, then number 4 at a cell with a field out of
-// its range.
-#[tactic(auto, using(records::proofs::ReturnLaws::tests), unfolding(crate::specs::Tables::cell_standing, crate::specs::Tables::cell_verdict, crate::specs::Tables::cell_tests, crate::specs::Tables::cell_count))]
-pub fn cell_standing(table: &[u8], k: u8) -> Result<Node, Refusal>
-    ensures { as_standing (cell_at table.now k) result ≡ cell_standing table.now k }
+// A cell, and whether the engine may stand at it.
+#[tactic(auto, unfolding(crate::specs::Tables::cell_standing, crate::specs::Tables::cell_verdict, crate::specs::Tables::cell_tests, crate::specs::Tables::fields_verdict))]
+pub fn cell_standing(table: &[u8], k: u8) -> Stood
+    ensures { as_stood result ≡ cell_standing table.now k }
+{
+    let node = cell_at(table, k);
+    let tested = tested(table, node, k);
+    Stood { node, tested }
+}
+
+// The length, the cell's number, then number 4 at a cell with a field out of its range.
+#[tactic(auto, using(records::proofs::ReturnLaws::tests), unfolding(crate::specs::Tables::cell_count))]
+fn tested(table: &[u8], cell: Node, k: u8) -> Result<(), Refusal>
+    ensures { verdict_of result ≡ first_refusal (refused_unless (is_table table.now) wrong_length 0 ∷ refused_unless (ltb k (cell_count table.now)) unreachable 0 ∷ refused_unless (eqb (cell_fault (cell_count table.now) cell).number 0) out_of_range k ∷ []) }
 {
     ensure(is_table(table), Number::WrongLength, 0)?;
     ensure((k as usize) < table.len() / 12, Number::Unreachable, 0)?;
-    sound_cell(table, k)
+    sound_cell(table.len() / 12, cell, k)
 }
 
 // The length, then every cell; the lowest bad cell is named.
-#[tactic(auto, using(records::proofs::ReturnLaws::tests, records::proofs::ReturnLaws::loops), unfolding(crate::specs::Tables::table_verdict, crate::specs::Tables::cell_count))]
+#[tactic(auto, using(records::proofs::ReturnLaws::tests, records::proofs::ReturnLaws::loops), unfolding(crate::specs::Tables::table_verdict, crate::specs::Tables::fields_verdict, crate::specs::Tables::cell_count))]
 pub fn table_verdict(table: &[u8]) -> Result<(), Refusal>
     ensures { verdict_of result ≡ table_verdict table.now }
 {
@@ -30,7 +41,7 @@ pub fn table_verdict(table: &[u8]) -> Result<(), Refusal>
     let cells = (table.len() / 12) as u8;
     // By number: the bytes hold no slice of cells.
     for k in 0..cells {
-        sound_cell(table, k)?;
+        sound_cell(cells as usize, cell_at(table, k), k)?;
     }
     Ok(())
 }
@@ -43,14 +54,10 @@ fn is_table(table: &[u8]) -> bool
     is_whole(table, 12)
 }
 
-// Cell k, with no field out of its range.
-#[tactic(auto, unfolding(crate::specs::Tables::fields_verdict, crate::specs::Tables::cell_count))]
-fn sound_cell(table: &[u8], k: u8) -> Result<Node, Refusal>
-    ensures verdict { verdict_of result ≡ fields_verdict table.now k }
-    ensures cell { IfOk result (λ cell. cell ≡ cell_at table.now k) }
+// Number 4 at k where cell k of so many has a field out of its range.
+fn sound_cell(cells: usize, cell: Node, k: u8) -> Result<(), Refusal>
+    ensures { verdict_of result ≡ refused_unless (eqb (cell_fault cells cell).number 0) out_of_range k }
 {
-    let cell = cell_at(table, k);
-    let sound = fields::cell_fault(table.len() / 12, cell).is_ok();
-    ensure(sound, Number::OutOfRange, k as usize)?;
-    Ok(cell)
+    let sound = fields::cell_fault(cells, cell).is_ok();
+    ensure(sound, Number::OutOfRange, k as usize)
 }

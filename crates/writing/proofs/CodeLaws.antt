@@ -1,12 +1,14 @@
 -- Laws of codes: the search through a table, and what a look-up's answer says. Assumes nothing.
-use Prim.Native.Nat.{ℕ, suc, ◌+◌, ◌*◌, ◌^◌, ◌<◌}
+use Prim.Native.Nat.{ℕ, suc, ◌+◌, ◌*◌, ◌^◌, ◌≤◌, ◌<◌}
 use mathlib.Core.Path.{◌≡◌, refl, ap, sym, ◌∙◌}
 use mathlib.Core.Bool.{Bool, true, false, cond}
 use mathlib.Core.List.{List, [], ◌∷◌}
 use native.Mathlib.Numerals.{add-one}
 use native.Mathlib.Omega.{arith}
+use borrow.Author.Tests.{eq-eqb, ne_eqb}
 use lib.Dec.{eqb}
-use lib.ListN.{length}
+use lib.ListN.{length, get_or, drop, drop_of_length-le}
+use lib.Seq.{drop-cons}
 use Rattle.records.specs.Bits.{joined}
 use Rattle.records.proofs.BitLaws.{joined_sum}
 use Rattle.image.specs.Codes.{code_number, lookup_from, lookup, fault_code, source_code, pull_code}
@@ -32,6 +34,22 @@ position_lowest i (x ∷ table) value = ap (cond (eqb x value) (Some i)) (positi
 
 pub lookup_found : (table : List ℕ) (value : ℕ) → position (equals value) table ≡ lookup table value
 lookup_found table value = position_from-zero (equals value) table ∙ position_lowest 0 table value
+
+-- ---- a look-up from a place on: found there, one place later, or past the end
+module _ (table : List ℕ) (value i : ℕ) where
+  next : i < length table
+      → lookup_from i (drop i table) value ≡ cond (eqb (get_or table i 0) value) (Some i) (lookup_from (suc i) (drop (suc i) table) value)
+  next h = ap (λ (l : List ℕ). lookup_from i l value) (drop-cons table i 0 h)
+
+  pub lookup_hit : i < length table → get_or table i 0 ≡ value → lookup_from i (drop i table) value ≡ Some i
+  lookup_hit h e = next h ∙ rw (eq-eqb _ _ e)
+
+  pub lookup_pass : i < length table → (get_or table i 0 ≡ value → ⊥)
+      → lookup_from i (drop i table) value ≡ lookup_from (i + 1) (drop (i + 1) table) value
+  lookup_pass h e = next h ∙ rw (ne_eqb _ _ e, add-one)
+
+  pub lookup_end : length table ≤ i → lookup_from i (drop i table) value ≡ None
+  lookup_end h = ap (λ (l : List ℕ). lookup_from i l value) (drop_of_length-le table h)
 
 -- ---- a code has room in its field
 within : (b : Bool) (i c n : ℕ) (rest : Option ℕ) → cond b (Some i) rest ≡ Some c → (rest ≡ Some c → c < suc i + n) → c < i + suc n

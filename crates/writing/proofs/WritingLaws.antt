@@ -11,7 +11,7 @@ use lib.ListN.{length, get_or, replicate}
 use Rattle.records.specs.Bits.{joined}
 use Rattle.records.specs.Lists.{each}
 use Rattle.records.specs.Numbers.{wrong_length, out_of_range}
-use Rattle.records.specs.Verdicts.{accepted, refused, refused_unless, first_refusal}
+use Rattle.records.specs.Verdicts.{accepted, refused, refused_unless, or_else, first_refusal}
 use Rattle.records.specs.Answers.{verdict_of}
 use Rattle.records.specs.declared.Number.{Number}
 use Rattle.records.specs.declared.Number.TheVariants.{OutOfRange}
@@ -19,7 +19,7 @@ use Rattle.records.specs.declared.Refusal.{Refusal}
 use Rattle.records.specs.declared.Verdict.{Verdict}
 use Rattle.records.proofs.BitLaws.{joined_sum}
 use Rattle.records.proofs.ListLaws.{get_d_default, each_ext, each_record}
-use Rattle.records.proofs.VerdictLaws.{tests_accepted, accepted_tests, lowest_shows, first_records}
+use Rattle.records.proofs.VerdictLaws.{tests_accepted, accepted_tests, lowest_shows, first_records, first_accepted, first_cons, first_one, or_else_pass, or_else_hit}
 use Rattle.records.proofs.ReturnLaws.{ends_here, goes_on, all_passed, held, number_some}
 use Rattle.image.specs.Codes.{code_number, code_value, lookup, times, pulses, fault_code, input_code, source_code, pull_code}
 use Rattle.image.specs.Reading.{zero_group}
@@ -271,8 +271,23 @@ module _ (settings : Settings) (buffer : List ℕ) where
   abbrev length_test : Verdict
   length_test = refused_unless (eqb (length buffer) 80) wrong_length 0
 
+  settings_accepted : (settings_verdict settings).number ≡ 0 → settings_verdict settings ≡ accepted
+  unfolding settings_verdict
+  settings_accepted h = first_accepted _ h
+
+  write_parts : write_verdict settings buffer ≡ or_else length_test (settings_verdict settings)
+  unfolding write_verdict
+  write_parts = first_cons _ _ ∙ ap (or_else _) (first_one (settings_verdict settings) settings_accepted)
+
+  -- the length's test, then the settings'
+  pub write_whole : length buffer ≡ 80 → settings_verdict settings ≡ write_verdict settings buffer
+  write_whole h = sym (write_parts ∙ or_else_pass _ _ (rw (eq-eqb _ _ h)))
+
+  pub write_not_whole : (length buffer ≡ 80 → ⊥) → refused wrong_length 0 ≡ write_verdict settings buffer
+  write_not_whole h = sym (write_parts ∙ rw (ne_eqb _ _ h) (or_else_hit _ _ (λ e. omega arith)))
+
   -- a refusal leaves the buffer
-  refusal_keeps : (v : Verdict) → v ≡ write_verdict settings buffer → (v.number ≡ 0 → ⊥) → buffer ≡ written settings buffer
+  pub refusal_keeps : (v : Verdict) → v ≡ write_verdict settings buffer → (v.number ≡ 0 → ⊥) → buffer ≡ written settings buffer
   unfolding written
   refusal_keeps v is some = rw (← is, ne_eqb _ _ some)
 

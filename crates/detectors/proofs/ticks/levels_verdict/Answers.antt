@@ -13,7 +13,7 @@ use Rattle.records.specs.Verdicts.{refused_unless}
 use Rattle.channels.specs.Frame.{frame_at}
 use Rattle.detectors.specs.Tick.{levels_verdict}
 use Rattle.detectors.proofs.ChunkLaws.{none_left, one_left, chunk_is, others_left}
-use Rattle.detectors.proofs.TickLaws.{levels_test, levels_read}
+use Rattle.detectors.proofs.TickLaws.{levels_test, levels_tested}
 use Rattle.detectors.proofs.ticks.levels_verdict.Goals as goal
 
 -- the next chunk is frame k, and its test that of the definition
@@ -21,7 +21,7 @@ here : (frames : List ℕ) (k : ℕ) {rest : List ℕ} (frame others : List ℕ)
     → (k < length frames / 11) × (refused_unless (ltb levels 32) bad_word 0 ≡ levels_test frames k)
 unfolding frame_at
 here frames k frame others left cut wide read =
-    (one_left 11 k frames left frame others cut wide (omega arith), levels_read frames frame k (chunk_is 11 k frames left frame others cut wide) read)
+    (one_left 11 k frames left frame others cut wide (omega arith), levels_tested frames frame k (chunk_is 11 k frames left frame others cut wide) read)
 
 pub loop-frame-init : goal.loop-frame-init
 unfolding levels_verdict

@@ -42,10 +42,10 @@ returns-then-is_err c =
     let wide = step.1.1 ∙ so.size in
     let within = one_left 220 n recording so.rest _ _ step.1.0 wide (omega arith) in
     let last : n + 1 + (length recording / 220 - (n + 1)) ≡ length recording / 220 = omega (arith, within) in
-    let is = next a.settings recording n _ _ _ c.loop-frames.detection c.engine_tick-detection.result so.rest step.1.0 wide so.reached so.accepted c.engine_tick-detection.ensures in
+    let is = next a.settings.now recording n _ _ _ c.loop-frames.detection c.engine_tick-detection.result so.rest step.1.0 wide so.reached so.accepted c.engine_tick-detection.ensures in
     is
-    ∙ sym (refusal_stays a.settings recording (n + 1) (length recording / 220 - (n + 1)) (λ zero. words_refused _ (sym c.is_err.ensures.value ∙ c.if-is_err.true) (ap (λ (d : Detected). d.verdict.number) is ∙ zero)))
-    ∙ ap (detected_after a.settings recording) last
+    ∙ sym (refusal_stays a.settings.now recording (n + 1) (length recording / 220 - (n + 1)) (λ zero. words_refused _ (sym c.is_err.ensures.value ∙ c.if-is_err.true) (ap (λ (d : Detected). d.verdict.number) is ∙ zero)))
+    ∙ ap (detected_after a.settings.now recording) last
 
 pub loop-frames-preserved : goal.loop-frames-preserved
 loop-frames-preserved c =
@@ -59,7 +59,7 @@ loop-frames-preserved c =
       size = step.0 ∙ so.size;
       rest = others_left 220 n recording so.rest _ _ step.1.0 wide;
       within = (let below = one_left 220 n recording so.rest _ _ step.1.0 wide (omega arith) in omega (arith, below));
-      reached = next a.settings recording n _ _ _ c.loop-frames.detection c.engine_tick-detection.result so.rest step.1.0 wide so.reached so.accepted c.engine_tick-detection.ensures;
+      reached = next a.settings.now recording n _ _ _ c.loop-frames.detection c.engine_tick-detection.result so.rest step.1.0 wide so.reached so.accepted c.engine_tick-detection.ensures;
       accepted = words_accepted _ (sym c.is_err.ensures.value ∙ c.if-is_err.false);
     })
 
@@ -71,4 +71,4 @@ returns c =
     let short : length c.loop-frames.frames-iterator.rest.now < 220 = omega (arith, c.in-None.ensures.steps.1, so.size) in
     let none : length recording / 220 ≤ n = none_left 220 n recording so.rest short in
     let all : n ≡ length recording / 220 = omega (arith, none, so.within) in
-    so.reached ∙ ap (detected_after c.args.settings recording) all
+    so.reached ∙ ap (detected_after c.args.settings.now recording) all

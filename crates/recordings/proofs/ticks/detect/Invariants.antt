@@ -12,6 +12,6 @@ invariant-loop-frames l = record {
   size : l.frames-iterator.size ≡ 220;
   rest : l.frames-iterator.rest.now ≡ drop (220 * length l.yielded) l.fn.recording;
   within : length l.yielded ≤ length l.fn.recording / 220;
-  reached : as_detected l.detection ≡ detected_after l.settings l.fn.recording (length l.yielded);
+  reached : as_detected l.detection ≡ detected_after l.fn.settings l.fn.recording (length l.yielded);
   accepted : (as_detected l.detection).verdict.number ≡ 0;
 }

@@ -15,7 +15,7 @@ use Rattle.tables.proofs.cell.write_cell.Goals as goal
 pub returns-clause-part_after : goal.returns-clause-part_after
 returns-clause-part_after c =
     let part = c.args.part.now in
-    let twelve = eqb-true _ _ (held _ 1 0 (λ z. omega arith) c.in_ok-ensure.ensures) in
+    let twelve = eqb-true _ _ (held _ 1 0 (λ z. omega arith) c.in_ok-ensure.ensures.verdict) in
     c.copy.ensures
     ∙ ap (λ (bytes : List ℕ). copied bytes part) c.cell_bytes.ensures
     ∙ copied_whole (cell_bytes c.args.cell) part (twelve ∙ sym (cell_length c.args.cell))

@@ -11,5 +11,5 @@ use Rattle.tables.proofs.verdict.table_verdict.Goals as goal
 pub overflow_cast-cells : goal.overflow_cast-cells
 unfolding is_table
 overflow_cast-cells c =
-    let whole : c.is_table.result ≡ true = held _ 1 0 (λ z. omega arith) c.in_ok-ensure.ensures in
+    let whole : c.is_table.result ≡ true = held _ 1 0 (λ z. omega arith) c.in_ok-ensure.ensures.verdict in
     omega (arith, ((whole_test 12 (length c.args.table.now)).0 (sym c.is_table.ensures ∙ whole)).most)
